@@ -1,0 +1,21 @@
+-- Laws of parts of a list: what a slice `&s[a..b]` holds. Assumes nothing.
+use mathlib.Core.Path.{_≡_, refl, ap, sym, _∙_}
+use Prim.Native.Nat.{ℕ, zero, suc, _-_, _+_, _≤_, _<_}
+use native.Mathlib.Omega.{arith}
+use mathlib.Core.List.{List, [], _∷_, _++_}
+use lib.ListN.{length, take, drop, getD, length-drop, length-take}
+use lib.Seq.{take-all, length-take-le, getD-drop, getD-take, drop-drop}
+use Rattle.lists.specs.Scan.{Bytes, part}
+
+-- what `&s[a..]` is
+pub tail-part : (s : List ℕ) (a : ℕ) → take (length s - a) (drop a s) ≡ drop a s
+tail-part s a = take-all (length s - a) (drop a s) (rw length-drop (omega arith))
+
+pub part-length : (s : List ℕ) (a n : ℕ) → a + n ≤ length s → length (part s a n) ≡ n
+part-length s a n h = length-take-le n (drop a s) (rw length-drop (omega arith))
+
+pub part-at : (s : List ℕ) (a n i d : ℕ) → i < n → getD (part s a n) i d ≡ getD s (a + i) d
+part-at s a n i d h = rw (getD-take, getD-drop)
+
+pub bytes-drop : (s : List ℕ) (a : ℕ) → Bytes s → Bytes (drop a s)
+bytes-drop s a h i = rw getD-drop (h (a + i))

@@ -1,0 +1,92 @@
+-- Laws of scans, at an index and over joined lists. Assumes nothing.
+use mathlib.Core.Path.{_≡_, refl, ap, sym, _∙_}
+use mathlib.Core.Bool.{Bool, true, false}
+use Prim.Native.Nat.{ℕ, suc, _+_, _-_, _≤_, _<_}
+use native.Mathlib.Numerals.{add-one}
+use native.Mathlib.Omega.{arith}
+use mathlib.Core.List.{List, [], _∷_, _++_}
+use borrow.Author.Tests.{eq-eqb, ne-eqb, eqb-true}
+use lib.Dec.{eqb}
+use lib.ListN.{length, drop, getD, drop-of-length-le}
+use lib.Seq.{drop-cons}
+use Rattle.lists.specs.Scan.{run, all, same, opens}
+use Rattle.lists.specs.Choice.{both}
+use Rattle.lists.proofs.Tests.{both-left, both-right, both-yes, true-not-false}
+
+module _ (p : ℕ → Bool) where
+  pub run-cons-go : (b : ℕ) (s : List ℕ) → p b ≡ true → run p (b ∷ s) ≡ suc (run p s)
+  unfolding run
+  run-cons-go b s e = rw (e, run)
+
+  pub run-cons-stop : (b : ℕ) (s : List ℕ) → p b ≡ false → run p (b ∷ s) ≡ 0
+  unfolding run
+  run-cons-stop b s e = rw (e, run)
+
+  pub run-le : (s : List ℕ) → run p s ≤ length s
+  unfolding run
+  run-le [] = omega arith
+  run-le (b ∷ s) = go (run-le s) (p b)
+    where
+      go : run p s ≤ length s → (f : Bool) → elim f as (λ x. ℕ) [ true ↦ suc (run p s) | false ↦ 0 ] ≤ suc (length s)
+      go ih true = omega arith
+      go ih false = omega arith
+
+  -- what a loop's invariant steps by
+  module _ (s : List ℕ) (i : ℕ) where
+    pub run-end : length s ≤ i → i + run p (drop i s) ≡ i
+    unfolding run
+    run-end h = rw (drop-of-length-le s h) (omega arith)
+
+    pub run-stop : i < length s → p (getD s i 0) ≡ false → i + run p (drop i s) ≡ i
+    run-stop h e = rw (drop-cons s i 0 h, run-cons-stop _ _ e) (omega arith)
+
+    pub run-go : i < length s → p (getD s i 0) ≡ true → i + run p (drop i s) ≡ i + 1 + run p (drop (i + 1) s)
+    run-go h e = rw (add-one, drop-cons s i 0 h, run-cons-go _ _ e) (omega arith)
+
+  -- a run that the element behind it ends, and one that nothing ends
+  pub run-stops : (s : List ℕ) (b : ℕ) (t : List ℕ) → all p s ≡ true → p b ≡ false → run p (s ++ b ∷ t) ≡ length s
+  unfolding all
+  run-stops [] b t e f = run-cons-stop b t f
+  run-stops (a ∷ s) b t e f =
+      run-cons-go a (s ++ b ∷ t) (both-left (p a) (all p s) e) ∙ ap suc (run-stops s b t (both-right (p a) (all p s) e) f)
+
+  pub run-all : (s : List ℕ) → all p s ≡ true → run p s ≡ length s
+  unfolding all run
+  run-all [] e = refl
+  run-all (a ∷ s) e = run-cons-go a s (both-left (p a) (all p s) e) ∙ ap suc (run-all s (both-right (p a) (all p s) e))
+
+  pub all-append : (s t : List ℕ) → all p s ≡ true → all p t ≡ true → all p (s ++ t) ≡ true
+  unfolding all
+  all-append [] t e f = f
+  all-append (a ∷ s) t e f =
+      both-yes (p a) (all p (s ++ t)) (both-left (p a) (all p s) e) (all-append s t (both-right (p a) (all p s) e) f)
+
+-- `same` is equality
+pub same-refl : (s : List ℕ) → same s s ≡ true
+unfolding same
+same-refl [] = refl
+same-refl (a ∷ s) = both-yes (eqb a a) (same s s) (eq-eqb a a refl) (same-refl s)
+
+pub same-eq : (s t : List ℕ) → same s t ≡ true → s ≡ t
+unfolding same
+same-eq [] [] e = refl
+same-eq [] (b ∷ t) e = true-not-false false e refl
+same-eq (a ∷ s) [] e = true-not-false false e refl
+same-eq (a ∷ s) (b ∷ t) e =
+    let h : a ≡ b = eqb-true a b (both-left (eqb a b) (same s t) e) in
+    let k : s ≡ t = same-eq s t (both-right (eqb a b) (same s t) e) in
+    rw (h, k)
+
+-- a list that opens with another opens with it whatever comes behind
+pub opens-append : (p s : List ℕ) → opens p (p ++ s) ≡ true
+unfolding opens
+opens-append [] s = refl
+opens-append (a ∷ p) s = both-yes (eqb a a) (opens p (p ++ s)) (eq-eqb a a refl) (opens-append p s)
+
+pub opens-split : (p s : List ℕ) → opens p s ≡ true → s ≡ p ++ drop (length p) s
+unfolding opens
+opens-split [] s e = refl
+opens-split (a ∷ p) [] e = true-not-false false e refl
+opens-split (a ∷ p) (b ∷ s) e =
+    let h : a ≡ b = eqb-true a b (both-left (eqb a b) (opens p s) e) in
+    rw h (ap (λ (l : List ℕ). b ∷ l) (opens-split p s (both-right (eqb a b) (opens p s) e)))

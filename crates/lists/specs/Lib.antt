@@ -1,0 +1,5 @@
+pub mod Choice
+pub mod Scan
+pub mod Write
+pub mod Text
+pub mod Found

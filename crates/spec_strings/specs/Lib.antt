@@ -1,0 +1,4 @@
+pub mod Utf8
+pub mod Table
+pub mod Escape
+pub mod Plain

@@ -1,0 +1,1 @@
+// What the string table, its texts and their escapes mean. There is no code here: see specs/ and proofs/.

@@ -11,7 +11,7 @@ use lib.ListN.{length, drop, getD, drop-of-length-le}
 use lib.Seq.{drop-cons}
 use Rattle.lists.specs.Scan.{run, all, same, opens}
 use Rattle.lists.specs.Choice.{both}
-use Rattle.lists.proofs.Tests.{both-left, both-right, both-yes, true-not-false}
+use Rattle.lists.proofs.Tests.{both-left, both-right, both-yes, both-no-right, true-not-false}
 
 module _ (p : ℕ → Bool) where
   pub run-cons-go : (b : ℕ) (s : List ℕ) → p b ≡ true → run p (b ∷ s) ≡ suc (run p s)
@@ -90,3 +90,43 @@ opens-split (a ∷ p) [] e = true-not-false false e refl
 opens-split (a ∷ p) (b ∷ s) e =
     let h : a ≡ b = eqb-true a b (both-left (eqb a b) (opens p s) e) in
     rw h (ap (λ (l : List ℕ). b ∷ l) (opens-split p s (both-right (eqb a b) (opens p s) e)))
+
+-- comparing from an index on: both at their end, equal elements, different elements, different lengths
+pub same-end : (s t : List ℕ) (i : ℕ) → length s ≤ i → length t ≤ i → same (drop i s) (drop i t) ≡ true
+unfolding same
+same-end s t i h k = rw (drop-of-length-le s h, drop-of-length-le t k)
+
+pub same-go : (s t : List ℕ) (i : ℕ) → i < length s → i < length t → getD s i 0 ≡ getD t i 0
+    → same (drop i s) (drop i t) ≡ same (drop (i + 1) s) (drop (i + 1) t)
+unfolding same
+same-go s t i h k e = rw (add-one, drop-cons s i 0 h, drop-cons t i 0 k, eq-eqb _ _ e)
+
+pub same-stop : (s t : List ℕ) (i : ℕ) → i < length s → i < length t → (getD s i 0 ≡ getD t i 0 → ⊥) → same (drop i s) (drop i t) ≡ false
+unfolding same
+same-stop s t i h k e = rw (drop-cons s i 0 h, drop-cons t i 0 k, ne-eqb _ _ e)
+
+pub same-lengths : (s t : List ℕ) → (length s ≡ length t → ⊥) → same s t ≡ false
+unfolding same
+same-lengths [] [] e = absurd (e refl)
+same-lengths [] (b ∷ t) e = refl
+same-lengths (a ∷ s) [] e = refl
+same-lengths (a ∷ s) (b ∷ t) e = both-no-right (eqb a b) (same s t) (same-lengths s t (λ h. e (ap suc h)))
+
+pub opens-end : (p s : List ℕ) (i : ℕ) → length p ≤ i → opens (drop i p) s ≡ true
+unfolding opens
+opens-end p s i h = rw (drop-of-length-le p h)
+
+pub opens-go : (p s : List ℕ) (i k : ℕ) → i < length p → k < length s → getD s k 0 ≡ getD p i 0
+    → opens (drop i p) (drop k s) ≡ opens (drop (i + 1) p) (drop (k + 1) s)
+unfolding opens
+opens-go p s i k h l e = rw (add-one i, add-one k, drop-cons p i 0 h, drop-cons s k 0 l, eq-eqb _ _ (sym e))
+
+pub opens-stop : (p s : List ℕ) (i k : ℕ) → i < length p → k < length s → (getD s k 0 ≡ getD p i 0 → ⊥) → opens (drop i p) (drop k s) ≡ false
+unfolding opens
+opens-stop p s i k h l e = rw (drop-cons p i 0 h, drop-cons s k 0 l, ne-eqb _ _ (λ q. e (sym q)))
+
+pub opens-short : (p s : List ℕ) → length s < length p → opens p s ≡ false
+unfolding opens
+opens-short [] s h = absurd (omega arith)
+opens-short (a ∷ p) [] h = refl
+opens-short (a ∷ p) (b ∷ s) h = both-no-right (eqb a b) (opens p s) (opens-short p s (omega arith))

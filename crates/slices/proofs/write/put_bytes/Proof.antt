@@ -3,16 +3,12 @@ use Rattle.lists.specs.Write.{Put}
 use lib.Seq.{take-suc, take-all}
 use lib.ListN.{length, take}
 use native.Mathlib.Numerals.{add-one}
-use Prim.Native.Nat.{ℕ, _+_, _-_, _≤_, _<_}
-use mathlib.Core.Logic.{⊎-elim}
-use mathlib.Core.Path.{_≡_, refl, ap, sym, _∙_}
+use Prim.Native.Nat.{_-_, _≤_}
+use mathlib.Core.Path.{sym}
 use native.Mathlib.Omega.{arith}
 use borrow.Author.Needs.{needs}
 use Rattle.slices.proofs.write.put_bytes.Statement.{statement}
 use Rattle.slices.proofs.write.put_bytes.Tie as tie
-use Rattle.slices.proofs.write.put_bytes.Reads as reads
-use Rattle.slices.proofs.write.put_bytes.Lts as lts
-use Rattle.slices.proofs.write.put_byte.Reads as put-byte-reads
 
 abbrev Inv-loop : tie.InvT-loop
 Inv-loop out₀ at s k₀ i₀ out k i = (i ≤ length s) × Put out₀ at (take i s) out k
@@ -20,27 +16,21 @@ Inv-loop out₀ at s k₀ i₀ out k i = (i ≤ length s) × Put out₀ at (take
 abbrev μ-loop : tie.MeasureT-loop
 μ-loop out₀ at s k₀ i₀ out k i = length s - i
 
--- src/lib.rt:31:5
 loop-holds : tie.Need-loop-holds Inv-loop μ-loop
 loop-holds c = (omega arith, wrote-none (omega arith) (omega arith))
 
--- src/lib.rt:32:30
 shared-slice-read-put-byte : tie.Need-shared-slice-read-put-byte Inv-loop μ-loop
 shared-slice-read-put-byte c = search needs
 
--- src/lib.rt:32:9
 put-byte-requires : tie.Need-put-byte-requires Inv-loop μ-loop
 put-byte-requires c κs = search needs
 
--- src/lib.rt:33:9
 add-i : tie.Need-add-i Inv-loop μ-loop
 add-i c = search needs
 
--- src/lib.rt:31:5
 loop-less : tie.Need-loop-less Inv-loop μ-loop
 loop-less c = search needs
 
--- src/lib.rt:31:5
 loop-again : tie.Need-loop-again Inv-loop μ-loop
 loop-again c =
     let b = c .before .before in
@@ -48,11 +38,9 @@ loop-again c =
     let h = b .before .before .before .loop-test .taken in
     (search needs, same-piece (sym (rw add-one (take-suc _ _ 0 h))) (l .loop .inv .1 then b .put-byte .ensures))
 
--- src/lib.rt:26:1
 same-length : tie.Need-same-length Inv-loop μ-loop
 same-length c = kept-length (c .before .loop .inv .1)
 
--- src/lib.rt:26:1
 returns : tie.Need-returns Inv-loop μ-loop
 returns c = same-piece (take-all _ _ (c .loop-test .left)) (c .before .loop .inv .1)
 

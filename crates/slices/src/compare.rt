@@ -1,0 +1,40 @@
+// Comparing bytes.
+ghost use mathlib.Core.Path.{_≡_};
+ghost use lib.ListN.{length, drop};
+ghost use Prim.Native.Nat.{_+_, _≤_};
+ghost use Rattle.lists.specs.Scan.{same, opens};
+
+// Whether two slices hold the same bytes. Lengths are compared first.
+pub fn same_bytes(s: &[u8], t: &[u8]) -> bool
+    ensures { λ r. ⌜ r ≡ same (now (s .entry)) (now (t .entry)) ⌝ }
+{
+    if s.len() != t.len() {
+        return false;
+    }
+    let mut i: usize = 0;
+    while i < s.len() {
+        if s[i] != t[i] {
+            return false;
+        }
+        i += 1;
+    }
+    true
+}
+
+// Whether s opens with p from `at` on.
+pub fn opens_at(s: &[u8], at: usize, p: &[u8]) -> bool
+    requires { ⌜ at ≤ length (now s) ⌝ }
+    ensures { λ r. ⌜ r ≡ opens (now (p .entry)) (drop at (now (s .entry))) ⌝ }
+{
+    if s.len() - at < p.len() {
+        return false;
+    }
+    let mut i: usize = 0;
+    while i < p.len() {
+        if s[at + i] != p[i] {
+            return false;
+        }
+        i += 1;
+    }
+    true
+}

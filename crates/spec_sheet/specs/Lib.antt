@@ -1,0 +1,4 @@
+pub mod Types
+pub mod Scan
+pub mod Line
+pub mod Sheet

@@ -1,0 +1,92 @@
+-- A line of a sheet that says one opcode: `op=18 name=Jmp jump=1 types=Addr8`. Assumes nothing.
+use Prim.Native.Nat.{ℕ, zero, suc, _+_, _-_}
+use mathlib.Core.Bool.{Bool, true, false}
+use mathlib.Core.List.{List, [], _∷_, _++_}
+use lib.Dec.{eqb}
+use lib.ListN.{length, getD, replicate}
+use Rattle.lists.specs.Choice.{pick}
+use Rattle.lists.specs.Scan.{part}
+use Rattle.lists.specs.Text.{text}
+use Rattle.spec_sheet.specs.Scan.{Step, after, literalAt, numberAt, nameAt, typeAt, lineEnd}
+use Rattle.spec_sheet.specs.Scan.Step.{next, off}
+
+-- an opcode: its number, where its name stands in the text and how long it is, its jump mark and its operand types
+pub record Op : Type 0 where
+  pub code : ℕ
+  pub start : ℕ
+  pub size : ℕ
+  pub jump : ℕ
+  pub types : List ℕ
+
+-- an opcode's name in the text of its sheet
+abbrev pub nameOf : List ℕ → Op → List ℕ
+nameOf s o = part s (o .start) (o .size)
+
+-- operand types that were read and the place behind them
+pub data TypesRead : Type 0 where
+  types : List ℕ → ℕ → TypesRead
+  noTypes : TypesRead
+
+unfoldable pub withType : ℕ → TypesRead → TypesRead
+withType c (types cs at) = types (c ∷ cs) at
+withType c noTypes = noTypes
+
+-- one type or more, with commas between, at most `most` of them
+unfoldable pub typesFrom : ℕ → List ℕ → ℕ → TypesRead
+typesFrom zero s at = noTypes
+typesFrom (suc most) s at =
+    after (typeAt s at) noTypes λ c b.
+    let more = withType c (typesFrom most s (b + 1)) in
+    pick (eqb (getD s b 0) 44) more (types (c ∷ []) b)
+
+-- "`types=-` for none", "at most eight operand types"
+unfoldable pub typesAt : List ℕ → ℕ → TypesRead
+typesAt s at = pick (eqb (getD s at 0) 45) (types [] (at + 1)) (typesFrom 8 s at)
+
+-- number and name: where the name starts, and where the reading stands behind it
+pub data HeadRead : Type 0 where
+  head : ℕ → ℕ → ℕ → ℕ → HeadRead
+  noHead : HeadRead
+
+unfoldable pub headAt : List ℕ → ℕ → HeadRead
+headAt s at =
+    after (literalAt (text "op=") s at) noHead λ _ a.
+    after (numberAt 255 s a) noHead λ code b.
+    after (literalAt (text " name=") s b) noHead λ _ c.
+    after (nameAt s c) noHead λ size d.
+    head code c size d
+
+-- the jump mark, 0 or 1
+unfoldable pub jumpAt : List ℕ → ℕ → Step
+jumpAt s at =
+    after (literalAt (text " jump=") s at) off λ _ a.
+    after (numberAt 1 s a) off λ jump b.
+    after (literalAt (text " types=") s b) off λ _ c.
+    next jump c
+
+-- the line, or that it is malformed
+pub data LineRead : Type 0 where
+  line : Op → ℕ → LineRead
+  noLine : LineRead
+
+unfoldable pub lineTypes : List ℕ → ℕ → ℕ → ℕ → ℕ → TypesRead → LineRead
+lineTypes s code start size jump (types cs at) =
+    after (literalAt lineEnd s at) noLine λ _ b.
+    line (record { code = code; start = start; size = size; jump = jump; types = cs }) b
+lineTypes s code start size jump noTypes = noLine
+
+unfoldable pub lineHead : List ℕ → HeadRead → LineRead
+lineHead s (head code start size at) =
+    after (jumpAt s at) noLine λ jump a.
+    lineTypes s code start size jump (typesAt s a)
+lineHead s noHead = noLine
+
+unfoldable pub lineAt : List ℕ → ℕ → LineRead
+lineAt s at = lineHead s (headAt s at)
+
+-- an opcode's row of eight type codes, and its operand count, jump mark and name
+unfoldable pub typeRow : Op → List ℕ
+typeRow o = o .types ++ replicate (8 - length (o .types)) 0
+
+unfoldable pub infoRow : Op → List ℕ
+infoRow o = length (o .types) ∷ o .jump ∷ o .start ∷ o .size ∷ []

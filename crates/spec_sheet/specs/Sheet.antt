@@ -1,0 +1,104 @@
+-- An opcode sheet (document 01, 'Opcode sheet'). Assumes nothing.
+use Prim.Native.Nat.{ℕ, zero, suc, _+_, _-_, _^_}
+use mathlib.Core.Bool.{Bool, true, false}
+use mathlib.Core.List.{List, [], _∷_, _++_}
+use lib.Dec.{eqb, leb, ltb}
+use lib.ListN.{length, take, getD, set, replicate}
+use Rattle.lists.specs.Choice.{pick, both}
+use Rattle.lists.specs.Scan.{same, part}
+use Rattle.lists.specs.Text.{text}
+use Rattle.lists.specs.Found.{Found}
+use Rattle.lists.specs.Found.Found.{found, missing}
+use Rattle.spec_sheet.specs.Scan.{Step, after, headerAt}
+use Rattle.spec_sheet.specs.Scan.Step.{next, off}
+use Rattle.spec_sheet.specs.Line.{Op, nameOf, LineRead, lineAt, typeRow, infoRow}
+use Rattle.spec_sheet.specs.Line.LineRead.{line, noLine}
+
+-- the rows of 256 opcodes, where those of a list are filled in; "gaps below the largest opcode become "<invalid>" with no operands"
+unfoldable pub fill : (Op → List ℕ) → List (List ℕ) → List Op → List (List ℕ)
+fill row rows [] = rows
+fill row rows (o ∷ ops) = fill row (set rows (o .code) (row o)) ops
+
+abbrev pub noTypeRows : List (List ℕ)
+noTypeRows = replicate 256 (replicate 8 0)
+
+abbrev pub noInfoRows : List (List ℕ)
+noInfoRows = replicate 256 (replicate 4 0)
+
+-- "at most eight operand types for each of 256 opcodes": the type codes by opcode
+abbrev pub typeRows : List Op → List (List ℕ)
+typeRows ops = fill typeRow noTypeRows ops
+
+-- operand count, jump mark, start and length of the name, by opcode; a length of 0 marks a gap
+abbrev pub infoRows : List Op → List (List ℕ)
+infoRows ops = fill infoRow noInfoRows ops
+
+-- a row of the latter has this name in the text s
+unfoldable pub hasName : List ℕ → List ℕ → List ℕ → Bool
+hasName s name row = both (ltb 0 (getD row 3 0)) (same (part s (getD row 2 0) (getD row 3 0)) name)
+
+-- the first opcode, counted from k, that has a name
+unfoldable pub findName : List ℕ → List ℕ → ℕ → List (List ℕ) → Found
+findName s name k [] = missing
+findName s name k (row ∷ rows) =
+    let rest = findName s name (suc k) rows in
+    pick (hasName s name row) (found k) rest
+
+-- no opcode has a name
+unfoldable pub isMissing : Found → Bool
+isMissing (found k) = false
+isMissing missing = true
+
+-- an opcode may follow those seen: "opcodes 0 to 255, rising", so not below `least`, and "Names differ"
+unfoldable pub follows : List ℕ → ℕ → List Op → Op → Bool
+follows s least seen o = both (leb least (o .code)) (isMissing (findName s (nameOf s o) 0 (take least (infoRows seen))))
+
+-- the opcode lines that were read and the place behind them, or how many were before the first malformed one
+pub data OpsRead : Type 0 where
+  allRead : List Op → ℕ → OpsRead
+  faultAfter : ℕ → OpsRead
+
+-- an opcode line that was read, and n more to come
+unfoldable pub opsAfter : List ℕ → ℕ → List Op → LineRead → (Op → ℕ → OpsRead) → OpsRead
+opsAfter s least seen (line o at) more = pick (follows s least seen o) (more o at) (faultAfter (length seen))
+opsAfter s least seen noLine more = faultAfter (length seen)
+
+unfoldable pub opsFrom : ℕ → List ℕ → ℕ → ℕ → List Op → OpsRead
+opsFrom zero s at least seen = allRead seen at
+opsFrom (suc n) s at least seen =
+    opsAfter s least seen (lineAt s at) λ o b.
+    opsFrom n s b (suc (o .code)) (seen ++ (o ∷ []))
+
+-- a sheet: its version and opcodes
+pub record Sheet : Type 0 where
+  pub version : ℕ
+  pub opcodes : List Op
+
+-- "gaps below the largest opcode": the opcodes rise, so that is the last one's
+unfoldable pub largest : ℕ → List Op → ℕ
+largest n [] = n
+largest n (o ∷ ops) = largest (o .code) ops
+
+-- a sheet and the place behind it, or the line that is malformed, from 1
+pub data SheetRead : Type 0 where
+  sheet : Sheet → ℕ → SheetRead
+  malformed : ℕ → SheetRead
+
+unfoldable pub sheetOps : ℕ → OpsRead → SheetRead
+sheetOps version (allRead os at) = sheet (record { version = version; opcodes = os }) at
+sheetOps version (faultAfter n) = malformed (3 + n)
+
+-- "`version=V` (u32), `count=N` (1 to 256), then N lines"; "A missing line is 1 where it would stand"
+unfoldable pub sheetAt : List ℕ → ℕ → SheetRead
+sheetAt s at =
+    after (headerAt (text "version=") (2 ^ 32 - 1) s at) (malformed 1) λ version a.
+    after (headerAt (text "count=") 256 s a) (malformed 2) λ count b.
+    pick (eqb count 0) (malformed 2) (sheetOps version (opsFrom count s b 0 []))
+
+-- a text that is a sheet and nothing else: "a line too many is 1"
+unfoldable pub endsAt : ℕ → SheetRead → SheetRead
+endsAt end (sheet sh at) = pick (eqb at end) (sheet sh at) (malformed (3 + length (sh .opcodes)))
+endsAt end (malformed k) = malformed k
+
+unfoldable pub sheetOf : List ℕ → SheetRead
+sheetOf s = endsAt (length s) (sheetAt s 0)

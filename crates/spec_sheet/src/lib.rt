@@ -1,0 +1,1 @@
+// What an opcode sheet says. There is no code here: see specs/ and proofs/.

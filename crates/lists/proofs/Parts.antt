@@ -3,7 +3,7 @@ use mathlib.Core.Path.{_≡_, refl, ap, sym, _∙_}
 use Prim.Native.Nat.{ℕ, zero, suc, _-_, _+_, _≤_, _<_}
 use native.Mathlib.Omega.{arith}
 use mathlib.Core.List.{List, [], _∷_, _++_}
-use lib.ListN.{length, take, drop, getD, length-drop, length-take}
+use lib.ListN.{length, take, drop, getD, length-drop, length-take, drop-of-length-le}
 use lib.Seq.{take-all, length-take-le, getD-drop, getD-take, drop-drop}
 use Rattle.lists.specs.Scan.{Bytes, part}
 
@@ -19,3 +19,11 @@ part-at s a n i d h = rw (getD-take, getD-drop)
 
 pub bytes-drop : (s : List ℕ) (a : ℕ) → Bytes s → Bytes (drop a s)
 bytes-drop s a h i = rw getD-drop (h (a + i))
+
+-- a part that begins at the end or behind it, and one that reaches the end
+pub part-none : (s : List ℕ) (a n : ℕ) → length s ≤ a → part s a n ≡ []
+part-none s a zero h = refl
+part-none s a (suc n) h = rw (drop-of-length-le s h)
+
+pub part-rest : (s : List ℕ) (a n : ℕ) → length s - a ≤ n → part s a n ≡ drop a s
+part-rest s a n h = take-all n (drop a s) (rw length-drop (omega arith))

@@ -6,7 +6,7 @@ use native.Mathlib.Numerals.{add-one}
 use native.Mathlib.Omega.{arith}
 use mathlib.Core.List.{List, [], _∷_, _++_}
 use borrow.Author.Tests.{eq-eqb, ne-eqb, eqb-true}
-use lib.Dec.{eqb}
+use lib.Dec.{eqb, eqb·suc-zero}
 use lib.ListN.{length, drop, getD, drop-of-length-le}
 use lib.Seq.{drop-cons}
 use Rattle.lists.specs.Scan.{run, all, same, opens}
@@ -130,3 +130,11 @@ unfolding opens
 opens-short [] s h = absurd (omega arith)
 opens-short (a ∷ p) [] h = refl
 opens-short (a ∷ p) (b ∷ s) h = both-no-right (eqb a b) (opens p s) (opens-short p s (omega arith))
+
+-- behind the end of a list only the empty list opens it
+pub opens-past : (p s : List ℕ) (at : ℕ) → length s < at → opens p (drop at s) ≡ eqb (length p) 0
+unfolding opens
+opens-past [] s at h = refl
+opens-past (a ∷ p) s at h =
+    let k : length s ≤ at = omega arith in
+    rw (drop-of-length-le s k, eqb·suc-zero (length p))

@@ -1,7 +1,6 @@
 // Comparing bytes.
 ghost use mathlib.Core.Path.{_≡_};
-ghost use lib.ListN.{length, drop};
-ghost use Prim.Native.Nat.{_+_, _≤_};
+ghost use lib.ListN.{drop};
 ghost use Rattle.lists.specs.Scan.{same, opens};
 
 // Whether two slices hold the same bytes. Lengths are compared first.
@@ -23,9 +22,11 @@ pub fn same_bytes(s: &[u8], t: &[u8]) -> bool
 
 // Whether s opens with p from `at` on.
 pub fn opens_at(s: &[u8], at: usize, p: &[u8]) -> bool
-    requires { ⌜ at ≤ length (now s) ⌝ }
     ensures { λ r. ⌜ r ≡ opens (now (p .entry)) (drop at (now (s .entry))) ⌝ }
 {
+    if s.len() < at {
+        return p.len() == 0;
+    }
     if s.len() - at < p.len() {
         return false;
     }

@@ -1,3 +1,4 @@
-// Writing to and comparing lent slices of bytes: the one writer and the one comparison that every layer uses.
+// Lent slices of bytes: the one writer, the one comparison and the one way to take a part that every layer uses.
 pub mod compare;
+pub mod part;
 pub mod write;

@@ -138,3 +138,10 @@ opens-past [] s at h = refl
 opens-past (a ∷ p) s at h =
     let k : length s ≤ at = omega arith in
     rw (drop-of-length-le s k, eqb·suc-zero (length p))
+
+-- what opens a list is no longer than it
+pub opens-length : (p s : List ℕ) → opens p s ≡ true → length p ≤ length s
+unfolding opens
+opens-length [] s e = omega arith
+opens-length (a ∷ p) [] e = true-not-false false e refl
+opens-length (a ∷ p) (b ∷ s) e = omega (arith, opens-length p s (both-right (eqb a b) (opens p s) e))

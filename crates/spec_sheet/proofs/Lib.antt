@@ -1,1 +1,3 @@
+pub mod TypeLaws
+pub mod ScanLaws
 pub mod SheetTrials

@@ -4,7 +4,7 @@ use mathlib.Core.Bool.{Bool, true, false, not}
 use mathlib.Core.List.{List, [], _∷_}
 use lib.Dec.{eqb, leb, ltb}
 use lib.ListN.{length, drop, getD}
-use Rattle.lists.specs.Choice.{pick, both, either}
+use Rattle.lists.specs.Choice.{pick, both, either, within}
 use Rattle.lists.specs.Scan.{run, opens, part}
 use Rattle.lists.specs.Text.{text}
 use Rattle.spec_numbers.specs.Parse.{Parsed, unsignedValue}
@@ -28,14 +28,14 @@ literalAt bytes s at = pick (opens bytes (drop at s)) (next 0 (at + length bytes
 abbrev pub lineEnd : List ℕ
 lineEnd = 10 ∷ []
 
-unfoldable pub isDigit : ℕ → Bool
-isDigit b = both (leb 48 b) (leb b 57)
+abbrev pub isDigit : ℕ → Bool
+isDigit b = within 48 57 b
 
-unfoldable pub isUpper : ℕ → Bool
-isUpper b = both (leb 65 b) (leb b 90)
+abbrev pub isUpper : ℕ → Bool
+isUpper b = within 65 90 b
 
-unfoldable pub isLower : ℕ → Bool
-isLower b = both (leb 97 b) (leb b 122)
+abbrev pub isLower : ℕ → Bool
+isLower b = within 97 122 b
 
 -- "letters, digits or underscores"
 unfoldable pub isNameByte : ℕ → Bool
@@ -59,11 +59,15 @@ headerAt key most s at =
     after (literalAt lineEnd s b) off λ _ c.
     next value c
 
--- "1 to 48 letters, digits or underscores, and open with an upper-case letter, but not with `Function`": its length
+-- "1 to 48 letters, digits or underscores, and open with an upper-case letter, but not with `Function`": k of them at a place
+unfoldable pub mayBeName : List ℕ → ℕ → ℕ → Bool
+mayBeName s at k = both (leb k 48) (both (not (opens (text "Function") (drop at s))) (isUpper (getD s at 0)))
+
+-- a name: its length
 unfoldable pub nameAt : List ℕ → ℕ → Step
 nameAt s at =
     let k = run isNameByte (drop at s) in
-    pick (both (isUpper (getD s at 0)) (both (leb k 48) (not (opens (text "Function") (drop at s))))) (next k (at + k)) off
+    pick (mayBeName s at k) (next k (at + k)) off
 
 -- the name of an operand type: its code
 unfoldable pub typeAt : List ℕ → ℕ → Step

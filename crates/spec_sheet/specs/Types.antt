@@ -35,13 +35,22 @@ unfoldable pub typeCode : List ℕ → ℕ
 typeCode word = typeCodeIn typeNames 1 word
 
 -- "Bytes: Reg8, UInt8, UInt8S, Addr8 1; UInt16, UInt16S 2; Reg32, UInt32, UInt32S, Addr32, Imm32 4; Double 8", by code
+abbrev pub widths : List ℕ
+widths = 0 ∷ 1 ∷ 4 ∷ 1 ∷ 2 ∷ 4 ∷ 1 ∷ 2 ∷ 4 ∷ 1 ∷ 4 ∷ 4 ∷ 8 ∷ []
+
 unfoldable pub widthOf : ℕ → ℕ
-widthOf code = getD (0 ∷ 1 ∷ 4 ∷ 1 ∷ 2 ∷ 4 ∷ 1 ∷ 2 ∷ 4 ∷ 1 ∷ 4 ∷ 4 ∷ 8 ∷ []) code 0
+widthOf code = getD widths code 0
 
 -- the families of a carry: 1 Reg, 2 UInt, 3 string, 4 Addr, 5 Imm32, 6 Double; 0 for no operand
+abbrev pub families : List ℕ
+families = 0 ∷ 1 ∷ 1 ∷ 2 ∷ 2 ∷ 2 ∷ 3 ∷ 3 ∷ 3 ∷ 4 ∷ 4 ∷ 5 ∷ 6 ∷ []
+
 unfoldable pub familyOf : ℕ → ℕ
-familyOf code = getD (0 ∷ 1 ∷ 1 ∷ 2 ∷ 2 ∷ 2 ∷ 3 ∷ 3 ∷ 3 ∷ 4 ∷ 4 ∷ 5 ∷ 6 ∷ []) code 0
+familyOf code = getD families code 0
 
 -- the kind of value that a type is decoded to: 0 U8, 1 U16, 2 U32, 3 I8, 4 I32, 5 F64
+abbrev pub kinds : List ℕ
+kinds = 0 ∷ 0 ∷ 2 ∷ 0 ∷ 1 ∷ 2 ∷ 0 ∷ 1 ∷ 2 ∷ 3 ∷ 4 ∷ 4 ∷ 5 ∷ []
+
 unfoldable pub kindOf : ℕ → ℕ
-kindOf code = getD (0 ∷ 0 ∷ 2 ∷ 0 ∷ 1 ∷ 2 ∷ 0 ∷ 1 ∷ 2 ∷ 3 ∷ 4 ∷ 4 ∷ 5 ∷ []) code 0
+kindOf code = getD kinds code 0

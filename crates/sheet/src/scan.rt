@@ -1,0 +1,127 @@
+// Readings at a place of a text: each answers a value and the place behind it, or that the text is not of the form.
+ghost use mathlib.Core.Path.{_≡_};
+ghost use Prim.Native.Nat.{_-_, _^_, _≤_, _<_};
+ghost use lib.ListN.{length, drop, getD};
+ghost use Rattle.lists.specs.Scan.{run};
+ghost use Rattle.spec_sheet.specs.Scan.{literalAt, isUpper, isNameByte, numberAt, headerAt, mayBeName, nameAt, typeAt};
+ghost use Rattle.sheet.specs.Answers.{stepOf, isWordByte};
+ghost use Rattle.lists.specs.Choice.{both, within};
+ghost use lib.Dec.{eqb, ltb};
+
+pub enum Step {
+    Next(u64, usize),
+    Off,
+}
+
+// Exactly the bytes of p.
+pub fn literal_at(s: &[u8], at: usize, p: &[u8]) -> Step
+    ensures { λ r. ⌜ r ≡ stepOf (literalAt (now (p .entry)) (now (s .entry)) at) ⌝ }
+{
+    if slices::compare::opens_at(s, at, p) {
+        return Step::Next(0, at + p.len());
+    }
+    Step::Off
+}
+
+// Whether a byte is from lo to hi.
+fn is_within(lo: u8, hi: u8, b: u8) -> bool
+    ensures { λ r. ⌜ r ≡ within lo hi b ⌝ }
+{
+    if lo <= b { b <= hi } else { false }
+}
+
+pub fn is_name_byte(b: u8) -> bool
+    ensures { λ r. ⌜ r ≡ isNameByte b ⌝ }
+{
+    if is_within(65, 90, b) {
+        return true;
+    }
+    if is_within(97, 122, b) {
+        return true;
+    }
+    if is_within(48, 57, b) {
+        return true;
+    }
+    b == 95
+}
+
+fn is_word_byte(letters: bool, b: u8) -> bool
+    ensures { λ r. ⌜ r ≡ isWordByte letters b ⌝ }
+{
+    if letters {
+        is_name_byte(b)
+    } else {
+        is_within(48, 57, b)
+    }
+}
+
+// How many digits, or letters, digits and underscores, stand at `at`.
+fn count_word(s: &[u8], at: usize, letters: bool) -> usize
+    ensures { λ r. ⌜ (r ≡ run (isWordByte letters) (drop at (now (s .entry)))) × (r ≤ length (now (s .entry)) - at) ⌝ }
+{
+    let mut i = at;
+    while i < s.len() {
+        if is_word_byte(letters, s[i]) {
+            i += 1;
+        } else {
+            return i - at;
+        }
+    }
+    i - at
+}
+
+// Whether the k digits at `at` are more than one and open with 0.
+fn is_padded(s: &[u8], at: usize, k: usize) -> bool
+    requires { ⌜ k ≤ length (now s) - at ⌝ }
+    ensures { λ r. ⌜ r ≡ both (ltb 1 k) (eqb (getD (now (s .entry)) at 0) 48) ⌝ }
+{
+    if 1 < k { s[at] == 48 } else { false }
+}
+
+// Whether an upper-case letter stands at `at`.
+fn opens_upper(s: &[u8], at: usize) -> bool
+    ensures { λ r. ⌜ r ≡ isUpper (getD (now (s .entry)) at 0) ⌝ }
+{
+    if at < s.len() {
+        is_within(65, 90, s[at])
+    } else {
+        false
+    }
+}
+
+// Whether the k letters, digits and underscores at `at` may be an opcode's name.
+fn may_be_name(s: &[u8], at: usize, k: usize) -> bool
+    ensures { λ r. ⌜ r ≡ mayBeName (now (s .entry)) at k ⌝ }
+{
+    if 48 < k {
+        return false;
+    }
+    if slices::compare::opens_at(s, at, b"Function") {
+        return false;
+    }
+    opens_upper(s, at)
+}
+
+// An opcode's name: its length.
+pub fn name_at(s: &[u8], at: usize) -> Step
+    ensures { λ r. ⌜ r ≡ stepOf (nameAt (now (s .entry)) at) ⌝ }
+{
+    let k = count_word(s, at, true);
+    if may_be_name(s, at, k) {
+        return Step::Next(k as u64, at + k);
+    }
+    Step::Off
+}
+
+// The name of an operand type: its code.
+pub fn type_at(s: &[u8], at: usize) -> Step
+    ensures { λ r. ⌜ r ≡ stepOf (typeAt (now (s .entry)) at) ⌝ }
+{
+    let k = count_word(s, at, true);
+    let word = slices::part::part_of(s, at, k);
+    let code = crate::types::type_code(word);
+    if code == 0 {
+        return Step::Off;
+    }
+    Step::Next(code as u64, at + k)
+}

@@ -1,0 +1,2 @@
+// Numbers as bytes and as text: what the desk reads and prints, each function equal to a definition of spec_numbers.
+pub mod print;

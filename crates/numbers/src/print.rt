@@ -1,0 +1,109 @@
+// Numbers as text, through the counting writer.
+ghost use mathlib.Core.Path.{_≡_};
+ghost use mathlib.Core.Bool.{Bool};
+ghost use Prim.Native.Nat.{_-_, _<_, _≤_};
+ghost use lib.Dec.{ltb, leb};
+ghost use Rattle.lists.specs.Choice.{both};
+ghost use Rattle.lists.specs.Write.{Put};
+ghost use Rattle.spec_numbers.specs.Print.{digit, digits, padded, decimal, signedDecimal, hexUpper, hexLower4, hexUpper4, hexUpper16};
+ghost use Rattle.spec_numbers.specs.TwosComplement.{signed};
+use slices::write::put_byte;
+
+// The character of a digit; letters from `letter` on.
+fn digit_char(d: u64, letter: u8) -> u8
+    requires { ⌜ (d < 16) × (letter ≤ 97) ⌝ }
+    ensures { λ r. ⌜ r ≡ digit letter d ⌝ }
+{
+    if d < 10 {
+        48 + (d as u8)
+    } else {
+        letter + ((d as u8) - 10)
+    }
+}
+
+// No digit stands in front of this one.
+fn first_digit(n: u64, base: u64, least: usize) -> bool
+    ensures { λ r. ⌜ r ≡ both (ltb n base) (leb least 1) ⌝ }
+{
+    if n < base {
+        return least <= 1;
+    }
+    false
+}
+
+// How many characters at least go in front of the last.
+fn one_less(least: usize) -> usize
+    ensures { λ r. ⌜ r ≡ least - 1 ⌝ }
+{
+    if least == 0 {
+        return 0;
+    }
+    least - 1
+}
+
+// Writes n in a base with at least `least` digits. The front is written first, so nothing has to be turned round.
+fn put_digits(out: &mut [u8], at: usize, n: u64, base: u64, letter: u8, least: usize) -> usize
+    requires { ⌜ (2 ≤ base) × (base ≤ 16) × (letter ≤ 97) ⌝ }
+    ensures { λ r. ⌜ Put (now (out .entry)) at (padded least (digits base letter 64 n)) (now (out .exit)) r ⌝ }
+{
+    if first_digit(n, base, least) {
+        return put_byte(out, at, digit_char(n, letter));
+    }
+    let k = put_digits(out, at, n / base, base, letter, one_less(least));
+    put_byte(out, k, digit_char(n % base, letter))
+}
+
+// Writes n in decimal.
+pub fn put_decimal(out: &mut [u8], at: usize, n: u64) -> usize
+    ensures { λ r. ⌜ Put (now (out .entry)) at (decimal n) (now (out .exit)) r ⌝ }
+{
+    put_digits(out, at, n, 10, 97, 0)
+}
+
+// Writes n in hexadecimal with letters from `letter` on ('a' is 97, 'A' is 65) and at least `least` digits.
+pub fn put_hex(out: &mut [u8], at: usize, n: u64, letter: u8, least: usize) -> usize
+    requires { ⌜ letter ≤ 97 ⌝ }
+    ensures { λ r. ⌜ Put (now (out .entry)) at (padded least (digits 16 letter 16 n)) (now (out .exit)) r ⌝ }
+{
+    put_digits(out, at, n, 16, letter, least)
+}
+
+// Writes `{:04x}`.
+pub fn put_hex_lower4(out: &mut [u8], at: usize, n: u64) -> usize
+    ensures { λ r. ⌜ Put (now (out .entry)) at (hexLower4 n) (now (out .exit)) r ⌝ }
+{
+    put_hex(out, at, n, 97, 4)
+}
+
+// Writes `{:04X}`.
+pub fn put_hex_upper4(out: &mut [u8], at: usize, n: u64) -> usize
+    ensures { λ r. ⌜ Put (now (out .entry)) at (hexUpper4 n) (now (out .exit)) r ⌝ }
+{
+    put_hex(out, at, n, 65, 4)
+}
+
+// Writes `{:016X}`.
+pub fn put_hex_upper16(out: &mut [u8], at: usize, n: u64) -> usize
+    ensures { λ r. ⌜ Put (now (out .entry)) at (hexUpper16 n) (now (out .exit)) r ⌝ }
+{
+    put_hex(out, at, n, 65, 16)
+}
+
+// Writes `{:X}`.
+pub fn put_hex_upper(out: &mut [u8], at: usize, n: u64) -> usize
+    ensures { λ r. ⌜ Put (now (out .entry)) at (hexUpper n) (now (out .exit)) r ⌝ }
+{
+    put_hex(out, at, n, 65, 0)
+}
+
+// Writes the signed number of 32 bits in decimal.
+pub fn put_signed(out: &mut [u8], at: usize, bits: u32) -> usize
+    ensures { λ r. ⌜ Put (now (out .entry)) at (signedDecimal (signed 32 bits)) (now (out .exit)) r ⌝ }
+{
+    let n = bits as u64;
+    if n < 0x8000_0000 {
+        return put_decimal(out, at, n);
+    }
+    let k = put_byte(out, at, 45);
+    put_decimal(out, k, 0x1_0000_0000 - n)
+}

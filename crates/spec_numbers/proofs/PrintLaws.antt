@@ -1,0 +1,187 @@
+-- Laws of printed numbers, in any base. Assumes nothing.
+use mathlib.Core.Path.{_≡_, refl, ap, sym, _∙_}
+use mathlib.Core.Bool.{Bool, true, false}
+use Prim.Native.Nat.{ℕ, zero, suc, _+_, _-_, _*_, _/_, _%_, _^_, _≤_, _<_}
+use native.Mathlib.Nat.{pow-suc, pow-zero, one-mul, div-lt-iff-lt-mul, le-div-iff-mul-le, mod-lt, lt-of-lt-of-le, pow-le-pow-left, pow-le-pow-right, div-eq-of-lt, div-le-self, div-lt-self, mod-eq-of-lt}
+use native.Mathlib.Omega.{arith}
+use mathlib.Core.List.{List, [], _∷_, _++_, append-assoc}
+use lib.ListN.{length, getD, replicate, length-append, length-replicate, List·getD-append, replicate-append-replicate}
+use lib.Dec.{ltb, leb}
+use borrow.Author.Tests.{lt-ltb, le-ltb, ltb-true, leb-true, leb-false}
+use Rattle.lists.specs.Choice.{both}
+use Rattle.lists.specs.Scan.{all}
+use Rattle.lists.proofs.Tests.{by-leb, both-yes, both-left, both-right}
+use Rattle.lists.proofs.Scans.{all-append}
+use Rattle.spec_numbers.specs.Print.{digit, digits, padded, decimal, signedDecimal, hexLower, hexUpper, hexLower4, hexUpper4, hexUpper16}
+use Rattle.spec_numbers.specs.TwosComplement.{signed}
+
+module _ (base letter : ℕ) where
+  -- a number below the base is one digit
+  pub digits-small : (k n : ℕ) → n < base → digits base letter (suc k) n ≡ digit letter n ∷ []
+  unfolding digits
+  digits-small k n h = rw (lt-ltb n base h, digits)
+
+  -- a larger one is the digits of its quotient and one digit more
+  pub digits-more : (k n : ℕ) → base ≤ n → digits base letter (suc k) n ≡ digits base letter k (n / base) ++ (digit letter (n % base) ∷ [])
+  unfolding digits
+  digits-more k n h = rw (le-ltb n base h, digits)
+
+one-power : (base n : ℕ) → n < base ^ 1 → n < base
+one-power base n h = rw (pow-suc, pow-zero, one-mul) at h
+
+-- the quotient has one digit less
+pub quotient-bound : (base k n : ℕ) → 0 < base → n < base ^ suc k → n / base < base ^ k
+quotient-bound base k n p h = div-lt-iff-lt-mul p .1 (rw pow-suc at h)
+
+all-one : (p : ℕ → Bool) (b : ℕ) → p b ≡ true → all p (b ∷ []) ≡ true
+unfolding all
+all-one p b e = both-yes (p b) true e refl
+
+all-replicate : (p : ℕ → Bool) (b : ℕ) → p b ≡ true → (n : ℕ) → all p (replicate n b) ≡ true
+unfolding all
+all-replicate p b e zero = refl
+all-replicate p b e (suc n) = both-yes (p b) (all p (replicate n b)) e (all-replicate p b e n)
+
+digit-none : (letter : ℕ) → digit letter 0 ≡ 48
+unfolding digit
+digit-none letter = refl
+
+-- the digit that is written 0 is worth 0
+pub digit-zero : (letter d : ℕ) → 48 < letter → digit letter d ≡ 48 → d ≡ 0
+unfolding digit
+digit-zero letter d b e =
+    by-leb 10 d
+    (λ m. absurd (let q : letter + (d - 10) ≡ 48 = rw (le-ltb d 10 m) at e in omega arith))
+    (λ m. let q : 48 + d ≡ 48 = rw (lt-ltb d 10 m) at e in omega arith)
+
+module _ (base letter : ℕ) (some : 0 < base) where
+  -- fuel that is not used up does not matter
+  pub digits-fuel : (j k n : ℕ) → n < base ^ suc j → n < base ^ suc k → digits base letter (suc j) n ≡ digits base letter (suc k) n
+  digits-fuel zero k n g h = digits-small base letter 0 n (one-power base n g) ∙ sym (digits-small base letter k n (one-power base n g))
+  digits-fuel (suc j) zero n g h = digits-small base letter (suc j) n (one-power base n h) ∙ sym (digits-small base letter 0 n (one-power base n h))
+  digits-fuel (suc j) (suc k) n g h =
+      by-leb base n
+      (λ m. rw (digits-more base letter (suc j) n m, digits-more base letter (suc k) n m, digits-fuel j k (n / base) (quotient-bound base (suc j) n some g) (quotient-bound base (suc k) n some h)))
+      (λ m. digits-small base letter (suc j) n m ∙ sym (digits-small base letter (suc k) n m))
+
+  -- the last digit, where the fuel lasts
+  pub digits-last : (k n : ℕ) → base ≤ n → n < base ^ suc (suc k)
+      → digits base letter (suc (suc k)) n ≡ digits base letter (suc (suc k)) (n / base) ++ (digit letter (n % base) ∷ [])
+  digits-last k n m h =
+      let q : n / base < base ^ suc k = quotient-bound base (suc k) n some h in
+      digits-more base letter (suc k) n m
+      ∙ rw (digits-fuel k (suc k) (n / base) q (lt-of-lt-of-le q (pow-le-pow-right some (omega arith))))
+
+  -- printed text is not empty
+  pub digits-some : (k n : ℕ) → 0 < length (digits base letter (suc k) n)
+  digits-some k n =
+      by-leb base n
+      (λ m. rw (digits-more base letter k n m, length-append) (omega arith))
+      (λ m. rw (digits-small base letter k n m) (omega arith))
+
+  pub digits-length : (k n : ℕ) → length (digits base letter k n) ≤ k
+  digits-length zero n = unfold digits in omega arith
+  digits-length (suc k) n =
+      by-leb base n
+      (λ m. rw (digits-more base letter k n m, length-append) (omega (arith, digits-length k (n / base))))
+      (λ m. rw (digits-small base letter k n m) (omega arith))
+
+  -- a number below base ^ suc k has at most suc k digits, however much fuel there is
+  pub digits-few : (j k n : ℕ) → n < base ^ suc j → n < base ^ suc k → length (digits base letter (suc j) n) ≤ suc k
+  digits-few j k n g h = rw (digits-fuel j k n g h) (digits-length (suc k) n)
+
+  -- what holds of every digit holds of all that is printed
+  pub digits-all : (p : ℕ → Bool) → ((d : ℕ) → d < base → p (digit letter d) ≡ true) → (k n : ℕ) → all p (digits base letter k n) ≡ true
+  digits-all p f zero n = unfold digits all in refl
+  digits-all p f (suc k) n =
+      by-leb base n
+      (λ m. rw (digits-more base letter k n m) (all-append p (digits base letter k (n / base)) (digit letter (n % base) ∷ []) (digits-all p f k (n / base)) (all-one p _ (f (n % base) (mod-lt n some)))))
+      (λ m. rw (digits-small base letter k n m) (all-one p _ (f n m)))
+
+  -- no 0 stands in front, but for the number 0
+  pub digits-first : 48 < letter → (k n : ℕ) → n < base ^ suc k → getD (digits base letter (suc k) n) 0 0 ≡ 48 → n ≡ 0
+  digits-first b zero n h e = digit-zero letter n b (rw (digits-small base letter 0 n (one-power base n h)) at e)
+  digits-first b (suc k) n h e =
+      by-leb base n
+      (λ m.
+      let q : getD (digits base letter (suc k) (n / base)) 0 0 ≡ 48 =
+      sym (List·getD-append (digits base letter (suc k) (n / base)) (digit letter (n % base) ∷ []) 0 0 (digits-some k (n / base)))
+      ∙ rw (digits-more base letter (suc k) n m) at e in
+      let g : 1 ≤ n / base = le-div-iff-mul-le some .1 (rw one-mul m) in
+      absurd (omega (arith, digits-first b k (n / base) (quotient-bound base (suc k) n some h) q)))
+      (λ m. digit-zero letter n b (rw (digits-small base letter (suc k) n m) at e))
+
+module _ (w : ℕ) where
+  -- zeros in front make a short text exactly w long, and leave a long one as it is
+  pub padded-length : (s : List ℕ) → length s ≤ w → length (padded w s) ≡ w
+  unfolding padded
+  padded-length s h = rw (length-append, length-replicate) (omega arith)
+
+  pub padded-long : (s : List ℕ) → w ≤ length s → padded w s ≡ s
+  unfolding padded
+  padded-long s h = let e : w - length s ≡ 0 = omega arith in rw e
+
+  pub padded-at-least : (s : List ℕ) → length s ≤ length (padded w s)
+  unfolding padded
+  padded-at-least s = rw (length-append, length-replicate) (omega arith)
+
+  pub padded-all : (p : ℕ → Bool) (s : List ℕ) → p 48 ≡ true → all p s ≡ true → all p (padded w s) ≡ true
+  unfolding padded
+  padded-all p s z e = all-append p (replicate (w - length s) 48) s (all-replicate p 48 z (w - length s)) e
+
+-- a text with zeros in front, from its last digit: a number of several digits, one digit behind zeros, and one digit alone
+module _ (base letter : ℕ) (some : 0 < base) (w : ℕ) where
+  padded-last : (k n : ℕ) → base ≤ n → n < base ^ suc (suc k)
+      → padded w (digits base letter (suc (suc k)) n) ≡ padded (w - 1) (digits base letter (suc (suc k)) (n / base)) ++ (digit letter (n % base) ∷ [])
+  unfolding padded
+  padded-last k n m h =
+      let d = digits base letter (suc (suc k)) (n / base) in
+      let l : w - length (d ++ (digit letter (n % base) ∷ [])) ≡ w - 1 - length d = omega (arith, length-append d (digit letter (n % base) ∷ [])) in
+      rw (digits-last base letter some k n m h, l, append-assoc)
+
+  padded-zeros : (k n : ℕ) → n < base → 1 < w
+      → padded w (digits base letter (suc k) n) ≡ padded (w - 1) (digits base letter (suc k) (n / base)) ++ (digit letter (n % base) ∷ [])
+  unfolding padded
+  padded-zeros k n m h =
+      let e : w - 1 ≡ w - 1 - 1 + 1 = omega arith in
+      rw (div-eq-of-lt m, mod-eq-of-lt m, digits-small base letter k n m, digits-small base letter k 0 some, digit-none letter, replicate-append-replicate {A = ℕ} (w - 1 - 1) 1 48)
+      (ap (λ (l : ℕ). replicate l 48 ++ (digit letter n ∷ [])) e)
+
+  -- one digit is all
+  pub padded-one : (k n : ℕ) → both (ltb n base) (leb w 1) ≡ true → padded w (digits base letter (suc k) n) ≡ digit letter n ∷ []
+  padded-one k n e =
+      rw (digits-small base letter k n (ltb-true n base (both-left (ltb n base) (leb w 1) e)))
+      (padded-long w (digit letter n ∷ []) (leb-true w 1 (both-right (ltb n base) (leb w 1) e)))
+
+  -- more stands in front of the last digit
+  pub padded-more : (k n : ℕ) → both (ltb n base) (leb w 1) ≡ false → n < base ^ suc (suc k)
+      → padded w (digits base letter (suc (suc k)) n) ≡ padded (w - 1) (digits base letter (suc (suc k)) (n / base)) ++ (digit letter (n % base) ∷ [])
+  padded-more k n e h = by-leb base n (λ m. padded-last k n m h) (λ m. padded-zeros (suc k) n m (leb-false w 1 (rw (lt-ltb n base m) at e)))
+
+  -- and what stands in front is less
+  pub padded-less : (n : ℕ) → both (ltb n base) (leb w 1) ≡ false → 1 < base → n / base + (w - 1) < n + w
+  padded-less n e b =
+      by-leb base n
+      (λ m. let q : n / base < n = div-lt-self (omega arith) b in omega arith)
+      (λ m. omega (arith, div-le-self n base, leb-false w 1 (rw (lt-ltb n base m) at e)))
+
+-- every u64 has its digits within 64, so the definitions' own fuel is enough
+pub u64-digits : (base letter j n : ℕ) → 2 ≤ base → n < 2 ^ 64 → n < base ^ suc j → digits base letter 64 n ≡ digits base letter (suc j) n
+u64-digits base letter j n b h g = digits-fuel base letter (omega arith) 63 j n (lt-of-lt-of-le h (pow-le-pow-left b 64)) g
+
+-- a text with no zeros asked for
+pub unpadded : (s : List ℕ) → padded 0 s ≡ s
+unpadded s = padded-long 0 s (omega arith)
+
+pub decimal-digits : (n : ℕ) → n < 2 ^ 64 → padded 0 (digits 10 97 64 n) ≡ decimal n
+unfolding decimal
+decimal-digits n h = unpadded (digits 10 97 64 n) ∙ u64-digits 10 97 19 n (omega arith) h (omega arith)
+
+-- a signed number is its decimal, or `-` and the decimal of what is missing to 2 ^ 32
+pub signed-decimal : (b : ℕ) → b < 2 ^ 31 → signedDecimal (signed 32 b) ≡ decimal b
+unfolding signedDecimal
+signed-decimal b h = rw (lt-ltb b (2 ^ 31) h)
+
+pub minus-decimal : (b : ℕ) → 2 ^ 31 ≤ b → b < 2 ^ 32 → signedDecimal (signed 32 b) ≡ 45 ∷ decimal (2 ^ 32 - b)
+unfolding signedDecimal
+minus-decimal b h l = let e : suc (2 ^ 32 - suc b) ≡ 2 ^ 32 - b = omega arith in rw (le-ltb b (2 ^ 31) h, e)

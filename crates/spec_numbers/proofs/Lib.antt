@@ -1,1 +1,3 @@
 pub mod PrintLaws
+pub mod ParseLaws
+pub mod ReadBackLaws

@@ -26,7 +26,7 @@ module _ (base letter : ℕ) where
   unfolding digits
   digits-more k n h = rw (le-ltb n base h, digits)
 
-one-power : (base n : ℕ) → n < base ^ 1 → n < base
+pub one-power : (base n : ℕ) → n < base ^ 1 → n < base
 one-power base n h = rw (pow-suc, pow-zero, one-mul) at h
 
 -- the quotient has one digit less

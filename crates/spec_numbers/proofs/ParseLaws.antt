@@ -1,8 +1,9 @@
 -- Laws of reading a number, clause by clause and at an index. Assumes nothing.
 use mathlib.Core.Path.{_≡_, refl, ap, sym, _∙_}
 use mathlib.Core.Bool.{Bool, true, false}
-use Prim.Native.Nat.{ℕ, zero, suc, _+_, _-_, _*_, _^_, _≤_, _<_}
+use Prim.Native.Nat.{ℕ, zero, suc, _+_, _-_, _*_, _/_, _^_, _≤_, _<_}
 use native.Mathlib.Numerals.{add-one}
+use native.Mathlib.Nat.{le-div-iff-mul-le, div-lt-iff-lt-mul}
 use native.Mathlib.Omega.{arith}
 use mathlib.Core.List.{List, [], _∷_, _++_}
 use lib.ListN.{length, drop, getD, drop-of-length-le}
@@ -10,7 +11,7 @@ use lib.Seq.{drop-cons}
 use lib.Dec.{ltb, leb, eqb}
 use borrow.Author.Tests.{lt-ltb, le-ltb, le-leb, lt-leb, eq-eqb, ne-eqb, ltb-true, leb-true}
 use Rattle.lists.specs.Choice.{both}
-use Rattle.lists.proofs.Tests.{by-test, both-left, both-right, both-yes, both-no-left, both-no-right}
+use Rattle.lists.proofs.Tests.{by-eqb, both-left, both-right}
 use Rattle.spec_numbers.specs.Parse.{Parsed, digitValue, digitsValue, unsignedValue, parseU32In, parseI32, negated, minus}
 use Rattle.spec_numbers.specs.Parse.Parsed.{is, bad}
 use Rattle.spec_numbers.specs.TwosComplement.{unsigned}
@@ -28,6 +29,10 @@ module _ (b : ℕ) where
   pub value-of-upper : 65 ≤ b → b ≤ 70 → digitValue b ≡ b - 55
   unfolding digitValue
   value-of-upper l h = rw (le-leb 48 b (omega arith), lt-leb b 57 (omega arith), lt-leb 97 b (omega arith), le-leb 65 b l, le-leb b 70 h)
+
+-- the lower end of a range that a byte is in
+pub range-low : (low b high : ℕ) → both (leb low b) (leb b high) ≡ true → low ≤ b
+range-low low b high e = leb-true low b (both-left (leb low b) (leb b high) e)
 
 module _ (base most n : ℕ) where
   -- one digit more, a byte that is no digit, and a number that grows too large
@@ -51,6 +56,25 @@ module _ (base most n : ℕ) where
   pub value-end : (s : List ℕ) (i : ℕ) → length s ≤ i → digitsValue base most n (drop i s) ≡ is n
   unfolding digitsValue
   value-end s i h = rw (drop-of-length-le s h)
+
+-- a turn of the loop that reads, by the worth of the byte at i
+module _ (base most n d : ℕ) (s : List ℕ) (i : ℕ) (h : i < length s) (e : d ≡ digitValue (getD s i 0)) where
+  pub turn-none : base ≤ d → digitsValue base most n (drop i s) ≡ bad
+  turn-none l = value-at base most n s i h ∙ value-none base most n (getD s i 0) (drop (i + 1) s) (rw e at l)
+
+  pub turn-over : d < base → most < n * base + d → digitsValue base most n (drop i s) ≡ bad
+  turn-over l o = value-at base most n s i h ∙ value-over base most n (getD s i 0) (drop (i + 1) s) (rw e at l) (rw e at o)
+
+  pub turn-step : d < base → n * base + d ≤ most → digitsValue base most n (drop i s) ≡ digitsValue base most (n * base + d) (drop (i + 1) s)
+  turn-step l o =
+      value-at base most n s i h ∙ value-step base most n (getD s i 0) (drop (i + 1) s) (rw e at l) (rw e at o) ∙ rw e
+
+-- the next number against `most`, by division
+pub next-fits : (base most n d : ℕ) → 0 < base → d ≤ most → n ≤ (most - d) / base → n * base + d ≤ most
+next-fits base most n d p h l = let q : n * base ≤ most - d = le-div-iff-mul-le p .0 l in omega arith
+
+pub next-over : (base most n d : ℕ) → 0 < base → d ≤ most → (most - d) / base < n → most < n * base + d
+next-over base most n d p h l = let q : most - d < n * base = div-lt-iff-lt-mul p .0 l in omega arith
 
 module _ (base most : ℕ) where
   -- a text of one digit that reads as a number takes the step
@@ -98,3 +122,71 @@ module _ (base most : ℕ) where
   unfolding unsignedValue
   unsigned-none [] h = refl
   unsigned-none (b ∷ s) h = absurd (omega arith)
+
+-- a u32: an empty text, one with a `+`, and one without
+pub u32-none : (base : ℕ) (s : List ℕ) → length s ≡ 0 → parseU32In base s ≡ bad
+unfolding parseU32In
+u32-none base [] h = refl
+u32-none base (b ∷ s) h = absurd (omega arith)
+
+pub u32-plus : (base : ℕ) (s : List ℕ) → getD s 0 0 ≡ 43 → parseU32In base s ≡ unsignedValue base (2 ^ 32 - 1) (drop 1 s)
+unfolding parseU32In unsignedValue
+u32-plus base [] e = refl
+u32-plus base (b ∷ s) e = rw (eq-eqb b 43 e, parseU32In)
+
+pub u32-plain : (base : ℕ) (s : List ℕ) → (getD s 0 0 ≡ 43 → ⊥) → parseU32In base s ≡ unsignedValue base (2 ^ 32 - 1) s
+unfolding parseU32In unsignedValue
+u32-plain base [] e = refl
+u32-plain base (b ∷ s) e = rw (ne-eqb b 43 e, parseU32In)
+
+pub u32-bound : (base m : ℕ) (s : List ℕ) → parseU32In base s ≡ is m → m < 2 ^ 32
+u32-bound base m s e =
+    by-eqb (getD s 0 0) 43
+    (λ q. omega (arith, unsigned-bound base (2 ^ 32 - 1) m (drop 1 s) (sym (u32-plus base s q) ∙ e)))
+    (λ q. omega (arith, unsigned-bound base (2 ^ 32 - 1) m s (sym (u32-plain base s q) ∙ e)))
+
+-- an i32: an empty text, one with a `-`, one with a `+`, and one with neither
+pub i32-none : (s : List ℕ) → length s ≡ 0 → parseI32 s ≡ bad
+unfolding parseI32
+i32-none [] h = refl
+i32-none (b ∷ s) h = absurd (omega arith)
+
+pub i32-minus : (s : List ℕ) → getD s 0 0 ≡ 45 → parseI32 s ≡ negated (unsignedValue 10 (2 ^ 31) (drop 1 s))
+unfolding parseI32 unsignedValue negated
+i32-minus [] e = refl
+i32-minus (b ∷ s) e = rw (eq-eqb b 45 e, parseI32)
+
+pub i32-plus : (s : List ℕ) → getD s 0 0 ≡ 43 → parseI32 s ≡ unsignedValue 10 (2 ^ 31 - 1) (drop 1 s)
+unfolding parseI32 unsignedValue
+i32-plus [] e = refl
+i32-plus (b ∷ s) e = rw (ne-eqb b 45 (omega arith), eq-eqb b 43 e, parseI32)
+
+pub i32-plain : (s : List ℕ) → (getD s 0 0 ≡ 45 → ⊥) → (getD s 0 0 ≡ 43 → ⊥) → parseI32 s ≡ unsignedValue 10 (2 ^ 31 - 1) s
+unfolding parseI32 unsignedValue
+i32-plain [] d e = refl
+i32-plain (b ∷ s) d e = rw (ne-eqb b 45 d, ne-eqb b 43 e, parseI32)
+
+-- the bits of minus a number
+pub minus-some : (n : ℕ) → 0 < n → unsigned 32 (minus n) ≡ 2 ^ 32 - n
+unfolding minus
+minus-some zero h = absurd (omega arith)
+minus-some (suc n) h = refl
+
+pub minus-bound : (n : ℕ) → unsigned 32 (minus n) < 2 ^ 32
+unfolding minus
+minus-bound zero = omega arith
+minus-bound (suc n) = omega arith
+
+negated-bound : (p : Parsed) (m : ℕ) → negated p ≡ is m → m < 2 ^ 32
+unfolding negated
+negated-bound (is n) m e = let q : unsigned 32 (minus n) ≡ m = cc e in rw q at (minus-bound n)
+negated-bound bad m e = absurd (let z : _≡_ {A = ℕ} 0 1 = cc e in omega arith)
+
+pub i32-bound : (m : ℕ) (s : List ℕ) → parseI32 s ≡ is m → m < 2 ^ 32
+i32-bound m s e =
+    by-eqb (getD s 0 0) 45
+    (λ d. negated-bound (unsignedValue 10 (2 ^ 31) (drop 1 s)) m (sym (i32-minus s d) ∙ e))
+    (λ d.
+    by-eqb (getD s 0 0) 43
+    (λ q. omega (arith, unsigned-bound 10 (2 ^ 31 - 1) m (drop 1 s) (sym (i32-plus s q) ∙ e)))
+    (λ q. omega (arith, unsigned-bound 10 (2 ^ 31 - 1) m s (sym (i32-plain s d q) ∙ e))))

@@ -1,0 +1,56 @@
+use borrow.Author.Needs.{needs}
+use mathlib.Core.Path.{sym, _∙_}
+use native.Mathlib.Omega.{arith}
+use Rattle.spec_numbers.specs.Parse.{digitValue}
+use Rattle.spec_numbers.proofs.ParseLaws.{range-low}
+use Rattle.numbers.proofs.parse.digit_value.Statement.{statement}
+use Rattle.numbers.proofs.parse.digit_value.Tie as tie
+
+between-requires : tie.Need-between-requires
+between-requires c κs = search needs
+
+sub-result : tie.Need-sub-result
+sub-result c = omega (arith, range-low 48 (c .before .before .args .b) 57 (sym (c .before .between .ensures) ∙ c .if1 .taken))
+
+returns : tie.Need-returns
+unfolding digitValue
+returns c = rw (sym (c .before .between .ensures) ∙ c .if1 .taken)
+
+between-requires-2 : tie.Need-between-requires-2
+between-requires-2 c κs = search needs
+
+sub-result-2 : tie.Need-sub-result-2
+sub-result-2 c = omega (arith, range-low 97 (c .before .before .before .before .args .b) 102 (sym (c .before .between2 .ensures) ∙ c .if2 .taken))
+
+returns-2 : tie.Need-returns-2
+unfolding digitValue
+returns-2 c = rw (sym (c .before .before .before .between .ensures) ∙ c .before .before .if1 .left, sym (c .before .between2 .ensures) ∙ c .if2 .taken)
+
+between-requires-3 : tie.Need-between-requires-3
+between-requires-3 c κs = search needs
+
+sub-result-3 : tie.Need-sub-result-3
+sub-result-3 c = omega (arith, range-low 65 (c .before .before .before .before .before .before .args .b) 70 (sym (c .before .between3 .ensures) ∙ c .if3 .taken))
+
+returns-3 : tie.Need-returns-3
+unfolding digitValue
+returns-3 c = rw (sym (c .before .before .before .before .before .between .ensures) ∙ c .before .before .before .before .if1 .left, sym (c .before .before .before .between2 .ensures) ∙ c .before .before .if2 .left, sym (c .before .between3 .ensures) ∙ c .if3 .taken)
+
+returns-4 : tie.Need-returns-4
+unfolding digitValue
+returns-4 c = rw (sym (c .before .before .before .before .before .between .ensures) ∙ c .before .before .before .before .if1 .left, sym (c .before .before .before .between2 .ensures) ∙ c .before .before .if2 .left, sym (c .before .between3 .ensures) ∙ c .if3 .left)
+
+pub digit-value-spec : {M : Type 1} → statement M
+digit-value-spec =
+    tie.close
+    (tie.spec
+    between-requires
+    sub-result
+    returns
+    between-requires-2
+    sub-result-2
+    returns-2
+    between-requires-3
+    sub-result-3
+    returns-3
+    returns-4)

@@ -1,3 +1,4 @@
 pub mod PrintLaws
 pub mod ParseLaws
 pub mod ReadBackLaws
+pub mod ByteLaws

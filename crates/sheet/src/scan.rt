@@ -7,6 +7,7 @@ ghost use Rattle.spec_sheet.specs.Scan.{literalAt, isUpper, isNameByte, numberA
 ghost use Rattle.sheet.specs.Answers.{stepOf, isWordByte};
 ghost use Rattle.lists.specs.Choice.{both, within};
 ghost use lib.Dec.{eqb, ltb};
+use numbers::parse::Number;
 
 pub enum Step {
     Next(u64, usize),
@@ -76,6 +77,41 @@ fn is_padded(s: &[u8], at: usize, k: usize) -> bool
     ensures { λ r. ⌜ r ≡ both (ltb 1 k) (eqb (getD (now (s .entry)) at 0) 48) ⌝ }
 {
     if 1 < k { s[at] == 48 } else { false }
+}
+
+// A decimal number up to `most` without leading zeros.
+pub fn number_at(s: &[u8], at: usize, most: u64) -> Step
+    ensures { λ r. ⌜ r ≡ stepOf (numberAt most (now (s .entry)) at) ⌝ }
+{
+    let k = count_word(s, at, false);
+    if is_padded(s, at, k) {
+        return Step::Off;
+    }
+    let digits = slices::part::part_of(s, at, k);
+    let value = numbers::parse::unsigned_value(digits, 0, 10, most);
+    match value {
+        Number::Is(n) => Step::Next(n, at + k),
+        Number::Bad => Step::Off,
+    }
+}
+
+// A line that is a key and a number up to `most`.
+pub fn header_at(s: &[u8], at: usize, key: &[u8], most: u64) -> Step
+    ensures { λ r. ⌜ r ≡ stepOf (headerAt (now (key .entry)) most (now (s .entry)) at) ⌝ }
+{
+    let k = literal_at(s, at, key);
+    let Step::Next(_, a) = k else {
+        return k;
+    };
+    let v = number_at(s, a, most);
+    let Step::Next(value, b) = v else {
+        return v;
+    };
+    let e = literal_at(s, b, b"\n");
+    let Step::Next(_, c) = e else {
+        return e;
+    };
+    Step::Next(value, c)
 }
 
 // Whether an upper-case letter stands at `at`.

@@ -9,6 +9,7 @@ use borrow.Author.Tests.{eq-eqb, ne-eqb}
 use Rattle.lists.specs.Choice.{both}
 use Rattle.lists.specs.Scan.{run, part, opens}
 use Rattle.spec_numbers.specs.Parse.{Parsed, unsignedValue}
+use Rattle.spec_numbers.specs.Parse.Parsed.{is, bad}
 use Rattle.spec_sheet.specs.Types.{typeCode}
 use Rattle.spec_sheet.specs.Scan.{Step, isDigit, isNameByte, mayBeName, nameAt, typeAt, numberAt, numberRead}
 use Rattle.spec_sheet.specs.Scan.Step.{next, off}
@@ -41,3 +42,13 @@ module _ (s : List ℕ) (at k : ℕ) where
       → numberAt most s at ≡ numberRead (unsignedValue 10 most (part s at k)) (at + k)
   unfolding numberAt
   number-here most e h = rw (sym e, h)
+
+  pub number-value : (most n : ℕ) → k ≡ run isDigit (drop at s) → both (ltb 1 k) (eqb (getD s at 0) 48) ≡ false
+      → unsignedValue 10 most (part s at k) ≡ is n → numberAt most s at ≡ next n (at + k)
+  unfolding numberRead
+  number-value most n e h v = number-here most e h ∙ rw v
+
+  pub number-none : (most : ℕ) → k ≡ run isDigit (drop at s) → both (ltb 1 k) (eqb (getD s at 0) 48) ≡ false
+      → unsignedValue 10 most (part s at k) ≡ bad → numberAt most s at ≡ off
+  unfolding numberRead
+  number-none most e h v = number-here most e h ∙ rw v

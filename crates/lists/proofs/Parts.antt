@@ -2,9 +2,9 @@
 use mathlib.Core.Path.{_≡_, refl, ap, sym, _∙_}
 use Prim.Native.Nat.{ℕ, zero, suc, _-_, _+_, _≤_, _<_}
 use native.Mathlib.Omega.{arith}
-use mathlib.Core.List.{List, [], _∷_, _++_}
-use lib.ListN.{length, take, drop, getD, length-drop, length-take, drop-of-length-le}
-use lib.Seq.{take-all, length-take-le, getD-drop, getD-take, drop-drop}
+use mathlib.Core.List.{List, [], _∷_, _++_, append-assoc}
+use lib.ListN.{length, take, drop, getD, set, replicate, length-drop, length-take, drop-of-length-le}
+use lib.Seq.{take-all, length-take-le, getD-drop, getD-take, set-at}
 use Rattle.lists.specs.Scan.{Bytes, part}
 
 -- what `&s[a..]` is
@@ -27,3 +27,16 @@ part-none s a (suc n) h = rw (drop-of-length-le s h)
 
 pub part-rest : (s : List ℕ) (a n : ℕ) → length s - a ≤ n → part s a n ≡ drop a s
 part-rest s a n h = take-all n (drop a s) (rw length-drop (omega arith))
+
+-- an element that is not the default stands inside
+pub inside : (s : List ℕ) (i : ℕ) → (getD s i 0 ≡ 0 → ⊥) → i < length s
+inside [] zero h = absurd (h refl)
+inside [] (suc i) h = absurd (h refl)
+inside (b ∷ s) zero h = omega arith
+inside (b ∷ s) (suc i) h = omega (arith, inside s i h)
+
+-- a list that is filled from the front, over a default
+pub fill-next : {A : Type 0} (z : A) (p : List A) (n i : ℕ) (r : A) → length p ≡ i → i < n → set (p ++ replicate (n - i) z) i r ≡ (p ++ (r ∷ [])) ++ replicate (n - (i + 1)) z
+fill-next z p n i r e h =
+    let f : n - i ≡ suc (n - (i + 1)) = omega arith in
+    rw (f, set-at p z (replicate (n - (i + 1)) z) r i e, append-assoc)

@@ -1,3 +1,4 @@
 // The opcode sheet: its text is read once into tables by opcode, which every later layer is lent.
+pub mod line;
 pub mod scan;
 pub mod types;

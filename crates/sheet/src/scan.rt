@@ -3,7 +3,7 @@ ghost use mathlib.Core.Path.{_≡_};
 ghost use Prim.Native.Nat.{_-_, _^_, _≤_, _<_};
 ghost use lib.ListN.{length, drop, getD};
 ghost use Rattle.lists.specs.Scan.{run};
-ghost use Rattle.spec_sheet.specs.Scan.{literalAt, isUpper, isNameByte, numberAt, headerAt, mayBeName, nameAt, typeAt};
+ghost use Rattle.spec_sheet.specs.Scan.{literalAt, isUpper, isNameByte, numberAt, keyedAt, mayBeName, nameAt, typeAt};
 ghost use Rattle.sheet.specs.Answers.{stepOf, isWordByte};
 ghost use Rattle.lists.specs.Choice.{both, within};
 ghost use lib.Dec.{eqb, ltb};
@@ -12,6 +12,13 @@ use numbers::parse::Number;
 pub enum Step {
     Next(u64, usize),
     Off,
+}
+
+// Whether the byte at `at` is b; behind the end every byte counts as 0.
+pub fn byte_is(s: &[u8], at: usize, b: u8) -> bool
+    ensures { λ r. ⌜ r ≡ eqb (getD (now (s .entry)) at 0) b ⌝ }
+{
+    if at < s.len() { s[at] == b } else { 0 == b }
 }
 
 // Exactly the bytes of p.
@@ -95,9 +102,9 @@ pub fn number_at(s: &[u8], at: usize, most: u64) -> Step
     }
 }
 
-// A line that is a key and a number up to `most`.
-pub fn header_at(s: &[u8], at: usize, key: &[u8], most: u64) -> Step
-    ensures { λ r. ⌜ r ≡ stepOf (headerAt (now (key .entry)) most (now (s .entry)) at) ⌝ }
+// A number up to `most` between a key and what has to stand behind it.
+pub fn keyed_at(s: &[u8], at: usize, key: &[u8], most: u64, tail: &[u8]) -> Step
+    ensures { λ r. ⌜ r ≡ stepOf (keyedAt (now (key .entry)) most (now (tail .entry)) (now (s .entry)) at) ⌝ }
 {
     let k = literal_at(s, at, key);
     let Step::Next(_, a) = k else {
@@ -107,7 +114,7 @@ pub fn header_at(s: &[u8], at: usize, key: &[u8], most: u64) -> Step
     let Step::Next(value, b) = v else {
         return v;
     };
-    let e = literal_at(s, b, b"\n");
+    let e = literal_at(s, b, tail);
     let Step::Next(_, c) = e else {
         return e;
     };

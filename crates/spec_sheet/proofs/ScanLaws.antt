@@ -2,11 +2,14 @@
 use mathlib.Core.Path.{_≡_, refl, ap, sym, _∙_}
 use mathlib.Core.Bool.{Bool, true, false}
 use mathlib.Core.List.{List, [], _∷_}
-use Prim.Native.Nat.{ℕ, suc, _+_}
+use Prim.Native.Nat.{ℕ, suc, _+_, _≤_, _<_}
+use native.Mathlib.Omega.{arith}
 use lib.Dec.{eqb, ltb}
 use lib.ListN.{length, drop, getD}
 use borrow.Author.Tests.{eq-eqb, ne-eqb}
 use Rattle.lists.specs.Choice.{both}
+use Rattle.lists.proofs.Tests.{by-eqb}
+use Rattle.spec_sheet.proofs.TypeLaws.{type-code-bound}
 use Rattle.lists.specs.Scan.{run, part, opens}
 use Rattle.spec_numbers.specs.Parse.{Parsed, unsignedValue}
 use Rattle.spec_numbers.specs.Parse.Parsed.{is, bad}
@@ -52,3 +55,13 @@ module _ (s : List ℕ) (at k : ℕ) where
       → unsignedValue 10 most (part s at k) ≡ bad → numberAt most s at ≡ off
   unfolding numberRead
   number-none most e h v = number-here most e h ∙ rw v
+
+-- the code of a type that was read
+pub type-bound : (s : List ℕ) (at c b : ℕ) → typeAt s at ≡ next c b → (0 < c) × (c ≤ 12)
+unfolding typeAt
+type-bound s at c b e =
+    let w = part s at (run isNameByte (drop at s)) in
+    by-eqb (typeCode w) 0
+    (λ h. absurd (let q = sym (type-off s at _ (typeCode w) refl refl h) ∙ e in let z : _≡_ {A = ℕ} 0 1 = cc q in omega arith))
+    (λ h. let q = sym (type-here s at _ (typeCode w) refl refl h) ∙ e in let v : typeCode w ≡ c = cc q in
+    (omega (arith, h), omega (arith, type-code-bound w)))

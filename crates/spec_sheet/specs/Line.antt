@@ -7,7 +7,7 @@ use lib.ListN.{length, getD, replicate}
 use Rattle.lists.specs.Choice.{pick}
 use Rattle.lists.specs.Scan.{part}
 use Rattle.lists.specs.Text.{text}
-use Rattle.spec_sheet.specs.Scan.{Step, after, literalAt, numberAt, nameAt, typeAt, lineEnd}
+use Rattle.spec_sheet.specs.Scan.{Step, after, literalAt, keyedAt, nameAt, typeAt, lineEnd}
 use Rattle.spec_sheet.specs.Scan.Step.{next, off}
 
 -- an opcode: its number, where its name stands in the text and how long it is, its jump mark and its operand types
@@ -50,19 +50,13 @@ pub data HeadRead : Type 0 where
 
 unfoldable pub headAt : List ℕ → ℕ → HeadRead
 headAt s at =
-    after (literalAt (text "op=") s at) noHead λ _ a.
-    after (numberAt 255 s a) noHead λ code b.
-    after (literalAt (text " name=") s b) noHead λ _ c.
-    after (nameAt s c) noHead λ size d.
-    head code c size d
+    after (keyedAt (text "op=") 255 (text " name=") s at) noHead λ code start.
+    after (nameAt s start) noHead λ size b.
+    head code start size b
 
 -- the jump mark, 0 or 1
-unfoldable pub jumpAt : List ℕ → ℕ → Step
-jumpAt s at =
-    after (literalAt (text " jump=") s at) off λ _ a.
-    after (numberAt 1 s a) off λ jump b.
-    after (literalAt (text " types=") s b) off λ _ c.
-    next jump c
+abbrev pub jumpAt : List ℕ → ℕ → Step
+jumpAt s at = keyedAt (text " jump=") 1 (text " types=") s at
 
 -- the line, or that it is malformed
 pub data LineRead : Type 0 where

@@ -51,12 +51,12 @@ numberAt most s at =
     let k = run isDigit (drop at s) in
     pick (both (ltb 1 k) (eqb (getD s at 0) 48)) off (numberRead (unsignedValue 10 most (part s at k)) (at + k))
 
--- a line that is a key and a number up to `most`
-unfoldable pub headerAt : List ℕ → ℕ → List ℕ → ℕ → Step
-headerAt key most s at =
+-- a number up to `most` between a key and what has to stand behind it
+unfoldable pub keyedAt : List ℕ → ℕ → List ℕ → List ℕ → ℕ → Step
+keyedAt key most tail s at =
     after (literalAt key s at) off λ _ a.
     after (numberAt most s a) off λ value b.
-    after (literalAt lineEnd s b) off λ _ c.
+    after (literalAt tail s b) off λ _ c.
     next value c
 
 -- "1 to 48 letters, digits or underscores, and open with an upper-case letter, but not with `Function`": k of them at a place

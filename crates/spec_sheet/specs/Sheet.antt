@@ -9,7 +9,7 @@ use Rattle.lists.specs.Scan.{same, part}
 use Rattle.lists.specs.Text.{text}
 use Rattle.lists.specs.Found.{Found}
 use Rattle.lists.specs.Found.Found.{found, missing}
-use Rattle.spec_sheet.specs.Scan.{Step, after, headerAt}
+use Rattle.spec_sheet.specs.Scan.{Step, after, keyedAt, lineEnd}
 use Rattle.spec_sheet.specs.Scan.Step.{next, off}
 use Rattle.spec_sheet.specs.Line.{Op, nameOf, LineRead, lineAt, typeRow, infoRow}
 use Rattle.spec_sheet.specs.Line.LineRead.{line, noLine}
@@ -91,8 +91,8 @@ sheetOps version (faultAfter n) = malformed (3 + n)
 -- "`version=V` (u32), `count=N` (1 to 256), then N lines"; "A missing line is 1 where it would stand"
 unfoldable pub sheetAt : List ℕ → ℕ → SheetRead
 sheetAt s at =
-    after (headerAt (text "version=") (2 ^ 32 - 1) s at) (malformed 1) λ version a.
-    after (headerAt (text "count=") 256 s a) (malformed 2) λ count b.
+    after (keyedAt (text "version=") (2 ^ 32 - 1) lineEnd s at) (malformed 1) λ version a.
+    after (keyedAt (text "count=") 256 lineEnd s a) (malformed 2) λ count b.
     pick (eqb count 0) (malformed 2) (sheetOps version (opsFrom count s b 0 []))
 
 -- a text that is a sheet and nothing else: "a line too many is 1"

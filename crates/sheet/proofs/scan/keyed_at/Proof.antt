@@ -1,9 +1,9 @@
 use Rattle.sheet.proofs.AnswerLaws.{was-next, was-off, next-is, off-is}
-use Rattle.spec_sheet.specs.Scan.{headerAt, after}
+use Rattle.spec_sheet.specs.Scan.{keyedAt, after}
 use mathlib.Core.Path.{sym, _∙_}
 use borrow.Author.Needs.{needs}
-use Rattle.sheet.proofs.scan.header_at.Statement.{statement}
-use Rattle.sheet.proofs.scan.header_at.Tie as tie
+use Rattle.sheet.proofs.scan.keyed_at.Statement.{statement}
+use Rattle.sheet.proofs.scan.keyed_at.Tie as tie
 
 literal-at-requires : tie.Need-literal-at-requires
 literal-at-requires c κs = search needs
@@ -15,7 +15,7 @@ enum-told : tie.Need-enum-told
 enum-told c = search needs
 
 returns : tie.Need-returns
-unfolding headerAt after
+unfolding keyedAt after
 returns c =
     let k = c .before .before in
     rw (was-off _ (sym (k .literal-at .ensures) ∙ c .enum-told .given .1)) (c .enum-told .given .1 ∙ off-is)
@@ -30,14 +30,11 @@ enum-told-2 : tie.Need-enum-told-2
 enum-told-2 c = search needs
 
 returns-2 : tie.Need-returns-2
-unfolding headerAt after
+unfolding keyedAt after
 returns-2 c =
     let v = c .before .before in
     let k = v .before .before .before .before in
     rw (was-next _ (sym (k .literal-at .ensures) ∙ v .before .before .k .given .1), was-off _ (sym (v .number-at .ensures) ∙ c .enum-told2 .given .1)) (c .enum-told2 .given .1 ∙ off-is)
-
-slice-aggregate-literal-at : tie.Need-slice-aggregate-literal-at
-slice-aggregate-literal-at c = search needs
 
 literal-at-requires-2 : tie.Need-literal-at-requires-2
 literal-at-requires-2 c κs = search needs
@@ -49,23 +46,23 @@ enum-told-3 : tie.Need-enum-told-3
 enum-told-3 c = search needs
 
 returns-3 : tie.Need-returns-3
-unfolding headerAt after
+unfolding keyedAt after
 returns-3 c =
     let e = c .before .before in
-    let v = e .before .before .before .before .before in
+    let v = e .before .before .before .before in
     let k = v .before .before .before .before in
-    rw (was-next _ (sym (k .literal-at .ensures) ∙ v .before .before .k .given .1), was-next _ (sym (v .number-at .ensures) ∙ e .before .before .before .v .given .1), was-off _ (sym (e .literal-at2 .ensures) ∙ c .enum-told3 .given .1)) (c .enum-told3 .given .1 ∙ off-is)
+    rw (was-next _ (sym (k .literal-at .ensures) ∙ v .before .before .k .given .1), was-next _ (sym (v .number-at .ensures) ∙ e .before .before .v .given .1), was-off _ (sym (e .literal-at2 .ensures) ∙ c .enum-told3 .given .1)) (c .enum-told3 .given .1 ∙ off-is)
 
 returns-4 : tie.Need-returns-4
-unfolding headerAt after
+unfolding keyedAt after
 returns-4 c =
     let e = c .before .before .before in
-    let v = e .before .before .before .before .before in
+    let v = e .before .before .before .before in
     let k = v .before .before .before .before in
-    rw (was-next _ (sym (k .literal-at .ensures) ∙ v .before .before .k .given .1), was-next _ (sym (v .number-at .ensures) ∙ e .before .before .before .v .given .1), was-next _ (sym (e .literal-at2 .ensures) ∙ c .before .e .given .1)) (next-is _ _)
+    rw (was-next _ (sym (k .literal-at .ensures) ∙ v .before .before .k .given .1), was-next _ (sym (v .number-at .ensures) ∙ e .before .before .v .given .1), was-next _ (sym (e .literal-at2 .ensures) ∙ c .before .e .given .1)) (next-is _ _)
 
-pub header-at-spec : {M : Type 1} → statement M
-header-at-spec =
+pub keyed-at-spec : {M : Type 1} → statement M
+keyed-at-spec =
     tie.close
     (tie.spec
     literal-at-requires
@@ -76,7 +73,6 @@ header-at-spec =
     enum-known-v
     enum-told-2
     returns-2
-    slice-aggregate-literal-at
     literal-at-requires-2
     enum-known-e
     enum-told-3

@@ -2,3 +2,4 @@
 pub mod io;
 pub mod parse;
 pub mod print;
+pub mod signed;

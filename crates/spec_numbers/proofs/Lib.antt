@@ -2,3 +2,4 @@ pub mod PrintLaws
 pub mod ParseLaws
 pub mod ReadBackLaws
 pub mod ByteLaws
+pub mod SignedLaws

@@ -11,7 +11,7 @@ use lib.Seq.{drop-cons}
 use lib.Dec.{ltb, leb, eqb}
 use borrow.Author.Tests.{lt-ltb, le-ltb, le-leb, lt-leb, eq-eqb, ne-eqb, ltb-true, leb-true}
 use Rattle.lists.specs.Choice.{both}
-use Rattle.lists.proofs.Tests.{by-eqb, both-left, both-right}
+use Rattle.lists.proofs.Tests.{by-leb, by-eqb, both-left, both-right}
 use Rattle.spec_numbers.specs.Parse.{Parsed, digitValue, digitsValue, unsignedValue, parseU32In, parseI32, negated, minus}
 use Rattle.spec_numbers.specs.Parse.Parsed.{is, bad}
 use Rattle.spec_numbers.specs.TwosComplement.{unsigned}
@@ -29,6 +29,16 @@ module _ (b : ℕ) where
   pub value-of-upper : 65 ≤ b → b ≤ 70 → digitValue b ≡ b - 55
   unfolding digitValue
   value-of-upper l h = rw (le-leb 48 b (omega arith), lt-leb b 57 (omega arith), lt-leb 97 b (omega arith), le-leb 65 b l, le-leb b 70 h)
+
+-- a byte that is a digit of any kind stands between `0` and `f`
+pub value-range : (b : ℕ) → digitValue b < 16 → (48 ≤ b) × (b ≤ 102)
+unfolding digitValue
+value-range b h = (
+  by-leb 48 b (λ l. l)
+      (λ l. absurd (let q : 16 < 16 = rw (lt-leb 48 b l, lt-leb 97 b (omega arith), lt-leb 65 b (omega arith)) at h in omega arith)),
+  by-leb b 102 (λ l. l)
+      (λ l. absurd (let q : 16 < 16 = rw (le-leb 48 b (omega arith), lt-leb b 57 (omega arith), le-leb 97 b (omega arith), lt-leb b 102 l, le-leb 65 b (omega arith), lt-leb b 70 (omega arith)) at h in omega arith)),
+)
 
 -- the lower end of a range that a byte is in
 pub range-low : (low b high : ℕ) → both (leb low b) (leb b high) ≡ true → low ≤ b

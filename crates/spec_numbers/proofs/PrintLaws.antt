@@ -7,13 +7,14 @@ use native.Mathlib.Omega.{arith}
 use mathlib.Core.List.{List, [], _∷_, _++_, append-assoc}
 use lib.ListN.{length, getD, replicate, length-append, length-replicate, List·getD-append, replicate-append-replicate}
 use lib.Dec.{ltb, leb}
-use borrow.Author.Tests.{lt-ltb, le-ltb, ltb-true, leb-true, leb-false}
+use borrow.Author.Tests.{le-leb, lt-ltb, le-ltb, ltb-true, leb-true, leb-false}
 use Rattle.lists.specs.Choice.{both}
 use Rattle.lists.specs.Scan.{all}
 use Rattle.lists.proofs.Tests.{by-leb, both-yes, both-left, both-right}
 use Rattle.lists.proofs.Scans.{all-append}
 use Rattle.spec_numbers.specs.Print.{digit, digits, padded, decimal, signedDecimal, hexLower, hexUpper, hexLower4, hexUpper4, hexUpper16}
 use Rattle.spec_numbers.specs.TwosComplement.{signed}
+use lib.IntN.{ℤ, pos, negsuc}
 
 module _ (base letter : ℕ) where
   -- a number below the base is one digit
@@ -36,6 +37,12 @@ quotient-bound base k n p h = div-lt-iff-lt-mul p .1 (rw pow-suc at h)
 all-one : (p : ℕ → Bool) (b : ℕ) → p b ≡ true → all p (b ∷ []) ≡ true
 unfolding all
 all-one p b e = both-yes (p b) true e refl
+
+-- what holds of all holds of the first
+pub all-first : (p : ℕ → Bool) (s : List ℕ) → all p s ≡ true → 0 < length s → p (getD s 0 0) ≡ true
+unfolding all
+all-first p [] e h = absurd (omega arith)
+all-first p (b ∷ s) e h = both-left (p b) (all p s) e
 
 all-replicate : (p : ℕ → Bool) (b : ℕ) → p b ≡ true → (n : ℕ) → all p (replicate n b) ≡ true
 unfolding all
@@ -185,3 +192,69 @@ signed-decimal b h = rw (lt-ltb b (2 ^ 31) h)
 pub minus-decimal : (b : ℕ) → 2 ^ 31 ≤ b → b < 2 ^ 32 → signedDecimal (signed 32 b) ≡ 45 ∷ decimal (2 ^ 32 - b)
 unfolding signedDecimal
 minus-decimal b h l = let e : suc (2 ^ 32 - suc b) ≡ 2 ^ 32 - b = omega arith in rw (le-ltb b (2 ^ 31) h, e)
+
+-- the lengths of what is printed
+pub decimal-some : (n : ℕ) → 0 < length (decimal n)
+unfolding decimal
+decimal-some n = digits-some 10 97 (omega arith) 19 n
+
+pub decimal-length : (n : ℕ) → length (decimal n) ≤ 20
+unfolding decimal
+decimal-length n = digits-length 10 97 (omega arith) 20 n
+
+pub decimal-length-32 : (n : ℕ) → n < 2 ^ 32 → length (decimal n) ≤ 10
+unfolding decimal
+decimal-length-32 n h = digits-few 10 97 (omega arith) 19 9 n (omega arith) (omega arith)
+
+pub signed-length : (b : ℕ) → b < 2 ^ 32 → length (signedDecimal (signed 32 b)) ≤ 11
+signed-length b h =
+    by-leb (2 ^ 31) b
+    (λ l. rw (minus-decimal b l h) (omega (arith, decimal-length-32 (2 ^ 32 - b) (omega arith))))
+    (λ l. rw (signed-decimal b l) (omega (arith, decimal-length-32 b (omega arith))))
+
+pub hexUpper-length : (n : ℕ) → length (hexUpper n) ≤ 16
+unfolding hexUpper
+hexUpper-length n = digits-length 16 65 (omega arith) 16 n
+
+pub hexLower-length : (n : ℕ) → length (hexLower n) ≤ 16
+unfolding hexLower
+hexLower-length n = digits-length 16 97 (omega arith) 16 n
+
+pub hexUpper-few : (k n : ℕ) → n < 2 ^ 64 → n < 16 ^ suc k → length (hexUpper n) ≤ suc k
+unfolding hexUpper
+hexUpper-few k n h l = digits-few 16 65 (omega arith) 15 k n (omega arith) l
+
+pub hexLower-few : (k n : ℕ) → n < 2 ^ 64 → n < 16 ^ suc k → length (hexLower n) ≤ suc k
+unfolding hexLower
+hexLower-few k n h l = digits-few 16 97 (omega arith) 15 k n (omega arith) l
+
+pub hexUpper16-length : (n : ℕ) → n < 2 ^ 64 → length (hexUpper16 n) ≡ 16
+unfolding hexUpper16
+hexUpper16-length n h = padded-length 16 (hexUpper n) (hexUpper-length n)
+
+pub hexLower4-length : (n : ℕ) → n < 65536 → length (hexLower4 n) ≡ 4
+unfolding hexLower4
+hexLower4-length n h = padded-length 4 (hexLower n) (hexLower-few 3 n (omega arith) (omega arith))
+
+pub hexUpper4-length : (n : ℕ) → n < 65536 → length (hexUpper4 n) ≡ 4
+unfolding hexUpper4
+hexUpper4-length n h = padded-length 4 (hexUpper n) (hexUpper-few 3 n (omega arith) (omega arith))
+
+-- what holds of the characters 0 to 9 holds of all decimal text
+pub decimal-every : (p : ℕ → Bool) → ((b : ℕ) → 48 ≤ b → b ≤ 57 → p b ≡ true) → (n : ℕ) → all p (decimal n) ≡ true
+unfolding decimal digit
+decimal-every p f n = digits-all 10 97 (omega arith) p (λ d h. rw (lt-ltb d 10 h) (f (48 + d) (omega arith) (omega arith))) 20 n
+
+pub decimal-all : (n : ℕ) → all (λ b. both (leb 48 b) (leb b 57)) (decimal n) ≡ true
+decimal-all n = decimal-every (λ b. both (leb 48 b) (leb b 57)) (λ b l h. both-yes (leb 48 b) (leb b 57) (le-leb 48 b l) (le-leb b 57 h)) n
+
+-- and of all signed text, where it holds of `-` too
+pub signed-every : (p : ℕ → Bool) → ((b : ℕ) → 48 ≤ b → b ≤ 57 → p b ≡ true) → p 45 ≡ true → (z : ℤ) → all p (signedDecimal z) ≡ true
+unfolding signedDecimal all
+signed-every p f m (pos n) = decimal-every p f n
+signed-every p f m (negsuc n) = both-yes (p 45) (all p (decimal (suc n))) m (decimal-every p f (suc n))
+
+-- only 0 has a 0 in front
+pub decimal-first : (n : ℕ) → n < 10 ^ 20 → getD (decimal n) 0 0 ≡ 48 → n ≡ 0
+unfolding decimal
+decimal-first n h e = digits-first 10 97 (omega arith) (omega arith) 19 n h e

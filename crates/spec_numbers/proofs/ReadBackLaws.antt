@@ -9,14 +9,15 @@ use native.Mathlib.Omega.{arith}
 use mathlib.Core.List.{List, [], _∷_, _++_}
 use lib.ListN.{length, getD, replicate}
 use lib.Dec.{ltb, leb, eqb}
-use borrow.Author.Tests.{lt-ltb, le-ltb, le-leb}
+use borrow.Author.Tests.{lt-ltb, le-ltb, le-leb, leb-true}
 use Rattle.lists.specs.Scan.{all}
 use Rattle.lists.proofs.Tests.{by-leb}
-use Rattle.spec_numbers.specs.Print.{digit, digits, padded, decimal, hexLower, hexUpper, hexUpper4, hexUpper16}
-use Rattle.spec_numbers.specs.Parse.{Parsed, digitValue, digitsValue, unsignedValue}
+use Rattle.spec_numbers.specs.Print.{digit, digits, padded, decimal, signedDecimal, hexLower, hexUpper, hexLower4, hexUpper4, hexUpper16}
+use Rattle.spec_numbers.specs.Parse.{Parsed, digitValue, digitsValue, unsignedValue, parseU32In, parseU32, parseHex, parseI32, negated}
+use Rattle.spec_numbers.specs.TwosComplement.{signed}
 use Rattle.spec_numbers.specs.Parse.Parsed.{is, bad}
-use Rattle.spec_numbers.proofs.PrintLaws.{one-power, unpadded, digits-small, digits-more, digits-some, quotient-bound, padded-at-least}
-use Rattle.spec_numbers.proofs.ParseLaws.{value-of-digit, value-of-lower, value-of-upper, value-step, value-append, unsigned-some}
+use Rattle.spec_numbers.proofs.PrintLaws.{one-power, unpadded, digits-small, digits-more, digits-some, digits-all, quotient-bound, padded-at-least, padded-all, all-first, decimal-every, decimal-some, signed-decimal, minus-decimal}
+use Rattle.spec_numbers.proofs.ParseLaws.{value-of-digit, value-of-lower, value-of-upper, value-step, value-append, value-range, unsigned-some, u32-plain, i32-plain, i32-minus, minus-some}
 
 -- the first letter of upper-case or of lower-case digits
 abbrev pub Letter : ℕ → Type 0
@@ -83,3 +84,62 @@ unsigned-decimal most n l h = ap (unsignedValue 10 most) (sym (unpadded (digits 
 pub unsigned-hex16 : (n : ℕ) → n < 2 ^ 64 → unsignedValue 16 (2 ^ 64 - 1) (hexUpper16 n) ≡ is n
 unfolding hexUpper16 hexUpper
 unsigned-hex16 n h = unsigned-back 16 (2 ^ 64 - 1) 65 16 15 n (omega arith) (omega arith) (inl refl) (omega arith) (omega arith)
+
+-- what holds of every hex digit holds of all that is printed in hexadecimal
+pub hex-every : (p : ℕ → Bool) → ((b : ℕ) → digitValue b < 16 → p b ≡ true) → (letter w k n : ℕ) → Letter letter
+    → all p (padded w (digits 16 letter k n)) ≡ true
+hex-every p f letter w k n c =
+    padded-all w p (digits 16 letter k n) (f 48 (rw (value-of-digit 48 (omega arith) (omega arith)) (omega arith)))
+    (digits-all 16 letter (omega arith) p (λ d h. f (digit letter d) (rw (digit-back letter d c h) h)) k n)
+
+-- no sign stands in front of printed digits
+unsigned-front : (letter w n : ℕ) → Letter letter → 48 ≤ getD (padded w (digits 16 letter 16 n)) 0 0
+unsigned-front letter w n c =
+    let s = padded w (digits 16 letter 16 n) in
+    leb-true 48 (getD s 0 0)
+    (all-first (leb 48) s (hex-every (leb 48) (λ b h. le-leb 48 b (value-range b h .0)) letter w 16 n c)
+    (omega (arith, padded-at-least w (digits 16 letter 16 n), digits-some 16 letter (omega arith) 15 n)))
+
+decimal-front : (n : ℕ) → 48 ≤ getD (decimal n) 0 0
+decimal-front n =
+    leb-true 48 (getD (decimal n) 0 0) (all-first (leb 48) (decimal n) (decimal-every (leb 48) (λ b l h. le-leb 48 b l) n) (decimal-some n))
+
+-- a printed u32 is read back
+pub parse-decimal : (n : ℕ) → n < 2 ^ 32 → parseU32 (decimal n) ≡ is n
+parse-decimal n h =
+    u32-plain 10 (decimal n) (λ e. omega (arith, decimal-front n)) ∙ unsigned-decimal (2 ^ 32 - 1) n (omega arith) (omega arith)
+
+-- a printed i32 is read back, by its bits
+pub parse-signed : (b : ℕ) → b < 2 ^ 32 → parseI32 (signedDecimal (signed 32 b)) ≡ is b
+unfolding negated
+parse-signed b h =
+    by-leb (2 ^ 31) b
+    (λ l.
+    let m : 2 ^ 32 - (2 ^ 32 - b) ≡ b = omega arith in
+    rw (minus-decimal b l h, i32-minus (45 ∷ decimal (2 ^ 32 - b)) refl, unsigned-decimal (2 ^ 31) (2 ^ 32 - b) (omega arith) (omega arith))
+    (ap is (minus-some (2 ^ 32 - b) (omega arith) ∙ m)))
+    (λ l.
+    rw (signed-decimal b l)
+    (i32-plain (decimal b) (λ e. omega (arith, decimal-front b)) (λ e. omega (arith, decimal-front b)) ∙ unsigned-decimal (2 ^ 31 - 1) b (omega arith) (omega arith)))
+
+-- a u32 printed in hexadecimal is read back, in either case and with any zeros in front
+pub parse-hex : (letter w n : ℕ) → Letter letter → n < 2 ^ 32 → parseHex (padded w (digits 16 letter 16 n)) ≡ is n
+parse-hex letter w n c h =
+    u32-plain 16 (padded w (digits 16 letter 16 n)) (λ e. omega (arith, unsigned-front letter w n c))
+    ∙ unsigned-back 16 (2 ^ 32 - 1) letter w 15 n (omega arith) (omega arith) c (omega arith) (omega arith)
+
+pub parse-hexUpper : (n : ℕ) → n < 2 ^ 32 → parseHex (hexUpper n) ≡ is n
+unfolding hexUpper
+parse-hexUpper n h = ap parseHex (sym (unpadded (digits 16 65 16 n))) ∙ parse-hex 65 0 n (inl refl) h
+
+pub parse-hexLower : (n : ℕ) → n < 2 ^ 32 → parseHex (hexLower n) ≡ is n
+unfolding hexLower
+parse-hexLower n h = ap parseHex (sym (unpadded (digits 16 97 16 n))) ∙ parse-hex 97 0 n (inr refl) h
+
+pub parse-hexUpper4 : (n : ℕ) → n < 2 ^ 32 → parseHex (hexUpper4 n) ≡ is n
+unfolding hexUpper4 hexUpper
+parse-hexUpper4 n h = parse-hex 65 4 n (inl refl) h
+
+pub parse-hexLower4 : (n : ℕ) → n < 2 ^ 32 → parseHex (hexLower4 n) ≡ is n
+unfolding hexLower4 hexLower
+parse-hexLower4 n h = parse-hex 97 4 n (inr refl) h

@@ -3,3 +3,4 @@ pub mod ParseLaws
 pub mod ReadBackLaws
 pub mod ByteLaws
 pub mod SignedLaws
+pub mod NumberTrials

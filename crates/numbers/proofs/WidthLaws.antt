@@ -1,13 +1,13 @@
 -- A signed number of any width and its bits, in the machine's words. Assumes nothing.
-use mathlib.Core.Path.{_≡_, refl, sym}
-use mathlib.Core.Bool.{Bool, true, false}
-use Prim.Native.Nat.{ℕ, suc, _+_, _-_, _^_, _≤_, _<_}
+use mathlib.Core.Path.{_≡_, refl}
+use mathlib.Core.Bool.{true, false}
+use Prim.Native.Nat.{ℕ, suc, _+_, _-_, _^_, _<_}
 use native.Mathlib.Omega.{arith}
-use lib.Dec.{T, ltb}
+use lib.Dec.{T}
 use lib.IntN.{ℤ, pos, negsuc, natAbs}
 use lib.Signed.{nonNeg, leZ, mag}
 use mir.Syntax.{Width, w8, w16, w32, w64, w128}
-use mir.Val.{toZ, ofZ, Fits, SFits, bits, hbits}
+use mir.Val.{toZ, ofZ, Fits, bits, hbits}
 use mir.Facts.{toZ-ofZ, toZ-pos}
 use borrow.Author.Tests.{le-leb}
 use Rattle.spec_numbers.specs.TwosComplement.{unsigned}

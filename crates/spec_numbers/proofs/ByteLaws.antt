@@ -1,18 +1,12 @@
 -- Little-endian bytes and numbers determine each other, for any number of bytes. Assumes nothing.
-use mathlib.Core.Path.{_≡_, refl, ap, sym, _∙_}
-use mathlib.Core.Bool.{true}
+use mathlib.Core.Path.{_≡_, refl, ap}
 use mathlib.Core.List.{List, [], _∷_}
 use Prim.Native.Nat.{ℕ, zero, suc, _+_, _-_, _*_, _/_, _%_, _^_, _≤_, _<_}
 use native.Mathlib.Nat.{pow-suc, one-le-pow, lt-of-lt-of-le, pow-le-pow-right}
-use native.Mathlib.Numerals.{add-one}
 use native.Mathlib.Omega.{arith}
-use lib.ListN.{length, take, drop, getD}
+use lib.ListN.{length, take, getD}
 use lib.Seq.{drop-cons, take-length}
-use lib.Dec.{ltb}
-use borrow.Author.Tests.{lt-ltb}
-use Rattle.lists.specs.Scan.{Bytes, part, all}
-use Rattle.lists.proofs.Tests.{both-yes}
-use Rattle.lists.proofs.Parts.{bytes-drop}
+use Rattle.lists.specs.Scan.{Bytes, part}
 use Rattle.spec_numbers.specs.LittleEndian.{le, leBytes}
 
 -- the bytes of a number make the number
@@ -32,6 +26,7 @@ leBytes-le (b ∷ bs) h =
     let d : (b + 256 * le bs) / 256 ≡ le bs = omega (arith, h 0) in
     rw (a, d, leBytes-le bs (λ i. h (suc i)))
 
+-- w bytes are w
 pub length-leBytes : (w n : ℕ) → length (leBytes w n) ≡ w
 unfolding leBytes
 length-leBytes zero n = refl
@@ -51,6 +46,7 @@ le-bound zero s h = omega arith
 le-bound (suc n) [] h = one-le-pow (suc n) 256 (omega arith)
 le-bound (suc n) (b ∷ bs) h = omega (arith, h 0, le-bound n bs (λ i. h (suc i)), pow-suc 256 n)
 
+-- the number of a list of bytes
 pub le-below : (s : List ℕ) → Bytes s → le s < 256 ^ length s
 le-below s h = rw (take-length s) at (le-bound (length s) s h)
 

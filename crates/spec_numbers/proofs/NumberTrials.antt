@@ -1,12 +1,12 @@
 -- Trials of the definitions of numbers, by computing. Assumes nothing.
 use mathlib.Core.Path.{_≡_, refl}
-use mathlib.Core.List.{List, [], _∷_}
-use Prim.Native.Nat.{ℕ, _-_, _^_}
+use mathlib.Core.List.{[], _∷_}
+use Prim.Native.Nat.{_-_, _^_}
 use Rattle.lists.specs.Text.{text}
 use Rattle.spec_numbers.specs.LittleEndian.{le, leBytes}
-use Rattle.spec_numbers.specs.TwosComplement.{signed, unsigned, wrapSub, wrapAdd, extend8}
+use Rattle.spec_numbers.specs.TwosComplement.{signed, wrapSub, wrapAdd, extend8}
 use Rattle.spec_numbers.specs.Print.{digit, digits, padded, decimal, signedDecimal, hexLower, hexUpper, hexLower4, hexUpper4, hexUpper16}
-use Rattle.spec_numbers.specs.Parse.{Parsed, digitValue, digitsValue, unsignedValue, parseU32In, parseU32, parseHex, parseI32, minus, negated}
+use Rattle.spec_numbers.specs.Parse.{digitValue, digitsValue, unsignedValue, parseU32In, parseU32, parseHex, parseI32, minus, negated}
 use Rattle.spec_numbers.specs.Parse.Parsed.{is, bad}
 
 -- u32: a `+` may stand in front and a `-` may not, and the largest is 2^32 - 1

@@ -1,5 +1,5 @@
 -- Laws of reading a number, clause by clause and at an index. Assumes nothing.
-use mathlib.Core.Path.{_≡_, refl, ap, sym, _∙_}
+use mathlib.Core.Path.{_≡_, refl, sym, _∙_}
 use mathlib.Core.Bool.{Bool, true, false}
 use Prim.Native.Nat.{ℕ, zero, suc, _+_, _-_, _*_, _/_, _^_, _≤_, _<_}
 use native.Mathlib.Numerals.{add-one}
@@ -8,7 +8,7 @@ use native.Mathlib.Omega.{arith}
 use mathlib.Core.List.{List, [], _∷_, _++_}
 use lib.ListN.{length, drop, getD, drop-of-length-le}
 use lib.Seq.{drop-cons}
-use lib.Dec.{ltb, leb, eqb}
+use lib.Dec.{ltb, leb}
 use borrow.Author.Tests.{lt-ltb, le-ltb, le-leb, lt-leb, eq-eqb, ne-eqb, ltb-true, leb-true}
 use Rattle.lists.specs.Choice.{both}
 use Rattle.lists.proofs.Tests.{by-leb, by-eqb, both-left, both-right}
@@ -18,14 +18,17 @@ use Rattle.spec_numbers.specs.TwosComplement.{unsigned}
 
 -- what a byte is worth, for each kind of digit
 module _ (b : ℕ) where
+  -- of `0` to `9`
   pub value-of-digit : 48 ≤ b → b ≤ 57 → digitValue b ≡ b - 48
   unfolding digitValue
   value-of-digit l h = rw (le-leb 48 b l, le-leb b 57 h)
 
+  -- of `a` to `f`
   pub value-of-lower : 97 ≤ b → b ≤ 102 → digitValue b ≡ b - 87
   unfolding digitValue
   value-of-lower l h = rw (le-leb 48 b (omega arith), lt-leb b 57 (omega arith), le-leb 97 b l, le-leb b 102 h)
 
+  -- of `A` to `F`
   pub value-of-upper : 65 ≤ b → b ≤ 70 → digitValue b ≡ b - 55
   unfolding digitValue
   value-of-upper l h = rw (le-leb 48 b (omega arith), lt-leb b 57 (omega arith), lt-leb 97 b (omega arith), le-leb 65 b l, le-leb b 70 h)
@@ -45,16 +48,19 @@ pub range-low : (low b high : ℕ) → both (leb low b) (leb b high) ≡ true �
 range-low low b high e = leb-true low b (both-left (leb low b) (leb b high) e)
 
 module _ (base most n : ℕ) where
-  -- one digit more, a byte that is no digit, and a number that grows too large
+  -- a byte more
   module _ (b : ℕ) (s : List ℕ) where
+    -- a digit more
     pub value-step : digitValue b < base → n * base + digitValue b ≤ most → digitsValue base most n (b ∷ s) ≡ digitsValue base most (n * base + digitValue b) s
     unfolding digitsValue
     value-step h l = rw (lt-ltb (digitValue b) base h, le-leb (n * base + digitValue b) most l, digitsValue)
 
+    -- a byte that is no digit of the base
     pub value-none : base ≤ digitValue b → digitsValue base most n (b ∷ s) ≡ bad
     unfolding digitsValue
     value-none h = rw (le-ltb (digitValue b) base h, digitsValue)
 
+    -- a number that grows too large
     pub value-over : digitValue b < base → most < n * base + digitValue b → digitsValue base most n (b ∷ s) ≡ bad
     unfolding digitsValue
     value-over h l = rw (lt-ltb (digitValue b) base h, lt-leb (n * base + digitValue b) most l, digitsValue)
@@ -63,28 +69,42 @@ module _ (base most n : ℕ) where
   pub value-at : (s : List ℕ) (i : ℕ) → i < length s → digitsValue base most n (drop i s) ≡ digitsValue base most n (getD s i 0 ∷ drop (i + 1) s)
   value-at s i h = rw (add-one, drop-cons s i 0)
 
+  -- nothing is left to read
   pub value-end : (s : List ℕ) (i : ℕ) → length s ≤ i → digitsValue base most n (drop i s) ≡ is n
   unfolding digitsValue
   value-end s i h = rw (drop-of-length-le s h)
 
--- a turn of the loop that reads, by the worth of the byte at i
-module _ (base most n d : ℕ) (s : List ℕ) (i : ℕ) (h : i < length s) (e : d ≡ digitValue (getD s i 0)) where
-  pub turn-none : base ≤ d → digitsValue base most n (drop i s) ≡ bad
-  turn-none l = value-at base most n s i h ∙ value-none base most n (getD s i 0) (drop (i + 1) s) (rw e at l)
+-- a turn of the loop that reads: n was read before index i, and the byte there is worth d
+pub record Turn (base most n d : ℕ) (s : List ℕ) («from» i : ℕ) : Type 0 where
+  pub inside : i < length s
+  pub worth : d ≡ digitValue (getD s i 0)
+  pub whole : digitsValue base most 0 (drop «from» s) ≡ digitsValue base most n (drop i s)
 
-  pub turn-over : d < base → most < n * base + d → digitsValue base most n (drop i s) ≡ bad
-  turn-over l o = value-at base most n s i h ∙ value-over base most n (getD s i 0) (drop (i + 1) s) (rw e at l) (rw e at o)
+module _ {base most n d : ℕ} {s : List ℕ} {«from» i : ℕ} (t : Turn base most n d s «from» i) where
+  -- a byte that is no digit ends the reading
+  pub turn-none : base ≤ d → digitsValue base most 0 (drop «from» s) ≡ bad
+  turn-none l = t .whole ∙ value-at base most n s i (t .inside) ∙ value-none base most n (getD s i 0) (drop (i + 1) s) (rw (t .worth) at l)
 
-  pub turn-step : d < base → n * base + d ≤ most → digitsValue base most n (drop i s) ≡ digitsValue base most (n * base + d) (drop (i + 1) s)
+  -- so does a number that grows too large
+  pub turn-over : d < base → most < n * base + d → digitsValue base most 0 (drop «from» s) ≡ bad
+  turn-over l o =
+      t .whole ∙ value-at base most n s i (t .inside)
+      ∙ value-over base most n (getD s i 0) (drop (i + 1) s) (rw (t .worth) at l) (rw (t .worth) at o)
+
+  -- any other digit carries it on
+  pub turn-step : d < base → n * base + d ≤ most → digitsValue base most 0 (drop «from» s) ≡ digitsValue base most (n * base + d) (drop (i + 1) s)
   turn-step l o =
-      value-at base most n s i h ∙ value-step base most n (getD s i 0) (drop (i + 1) s) (rw e at l) (rw e at o) ∙ rw e
+      t .whole ∙ value-at base most n s i (t .inside)
+      ∙ value-step base most n (getD s i 0) (drop (i + 1) s) (rw (t .worth) at l) (rw (t .worth) at o)
+      ∙ rw (t .worth)
 
--- the next number against `most`, by division
-pub next-fits : (base most n d : ℕ) → 0 < base → d ≤ most → n ≤ (most - d) / base → n * base + d ≤ most
-next-fits base most n d p h l = let q : n * base ≤ most - d = le-div-iff-mul-le p .0 l in omega arith
+  -- the next number is within `most`, by division
+  pub turn-fits : 0 < base → d ≤ most → n ≤ (most - d) / base → n * base + d ≤ most
+  turn-fits p h l = let q : n * base ≤ most - d = le-div-iff-mul-le p .0 l in omega arith
 
-pub next-over : (base most n d : ℕ) → 0 < base → d ≤ most → (most - d) / base < n → most < n * base + d
-next-over base most n d p h l = let q : most - d < n * base = div-lt-iff-lt-mul p .0 l in omega arith
+  -- and where it is past `most`
+  pub turn-past : 0 < base → d ≤ most → (most - d) / base < n → most < n * base + d
+  turn-past p h l = let q : most - d < n * base = div-lt-iff-lt-mul p .0 l in omega arith
 
 module _ (base most : ℕ) where
   -- a text of one digit that reads as a number takes the step
@@ -117,6 +137,7 @@ module _ (base most : ℕ) where
   value-bound n m [] h e = let q : n ≡ m = unfold digitsValue in cc e in omega arith
   value-bound n m (b ∷ s) h e = read-cons n m b s e (λ g l r. value-bound (n * base + digitValue b) m s l r)
 
+  -- also where one digit or more is asked for
   pub unsigned-bound : (m : ℕ) (s : List ℕ) → unsignedValue base most s ≡ is m → m ≤ most
   unfolding unsignedValue
   unsigned-bound m [] e = absurd (let z : _≡_ {A = ℕ} 0 1 = cc e in omega arith)
@@ -128,6 +149,7 @@ module _ (base most : ℕ) where
   unsigned-some [] h = absurd (omega arith)
   unsigned-some (b ∷ s) h = refl
 
+  -- an empty text is no number
   pub unsigned-none : (s : List ℕ) → length s ≤ 0 → unsignedValue base most s ≡ bad
   unfolding unsignedValue
   unsigned-none [] h = refl
@@ -149,6 +171,7 @@ unfolding parseU32In unsignedValue
 u32-plain base [] e = refl
 u32-plain base (b ∷ s) e = rw (ne-eqb b 43 e, parseU32In)
 
+-- what is read as a u32 is one
 pub u32-bound : (base m : ℕ) (s : List ℕ) → parseU32In base s ≡ is m → m < 2 ^ 32
 u32-bound base m s e =
     by-eqb (getD s 0 0) 43
@@ -182,6 +205,7 @@ unfolding minus
 minus-some zero h = absurd (omega arith)
 minus-some (suc n) h = refl
 
+-- they are 32 bits
 pub minus-bound : (n : ℕ) → unsigned 32 (minus n) < 2 ^ 32
 unfolding minus
 minus-bound zero = omega arith
@@ -192,6 +216,7 @@ unfolding negated
 negated-bound (is n) m e = let q : unsigned 32 (minus n) ≡ m = cc e in rw q at (minus-bound n)
 negated-bound bad m e = absurd (let z : _≡_ {A = ℕ} 0 1 = cc e in omega arith)
 
+-- what is read as an i32 has 32 bits
 pub i32-bound : (m : ℕ) (s : List ℕ) → parseI32 s ≡ is m → m < 2 ^ 32
 i32-bound m s e =
     by-eqb (getD s 0 0) 45

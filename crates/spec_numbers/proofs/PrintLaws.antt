@@ -1,7 +1,7 @@
 -- Laws of printed numbers, in any base. Assumes nothing.
 use mathlib.Core.Path.{_≡_, refl, ap, sym, _∙_}
 use mathlib.Core.Bool.{Bool, true, false}
-use Prim.Native.Nat.{ℕ, zero, suc, _+_, _-_, _*_, _/_, _%_, _^_, _≤_, _<_}
+use Prim.Native.Nat.{ℕ, zero, suc, _+_, _-_, _/_, _%_, _^_, _≤_, _<_}
 use native.Mathlib.Nat.{pow-suc, pow-zero, one-mul, div-lt-iff-lt-mul, le-div-iff-mul-le, mod-lt, lt-of-lt-of-le, pow-le-pow-left, pow-le-pow-right, div-eq-of-lt, div-le-self, div-lt-self, mod-eq-of-lt}
 use native.Mathlib.Omega.{arith}
 use mathlib.Core.List.{List, [], _∷_, _++_, append-assoc}
@@ -27,6 +27,7 @@ module _ (base letter : ℕ) where
   unfolding digits
   digits-more k n h = rw (le-ltb n base h, digits)
 
+-- a number of one digit is below the base
 pub one-power : (base n : ℕ) → n < base ^ 1 → n < base
 one-power base n h = rw (pow-suc, pow-zero, one-mul) at h
 
@@ -86,6 +87,7 @@ module _ (base letter : ℕ) (some : 0 < base) where
       (λ m. rw (digits-more base letter k n m, length-append) (omega arith))
       (λ m. rw (digits-small base letter k n m) (omega arith))
 
+  -- there are no more digits than fuel
   pub digits-length : (k n : ℕ) → length (digits base letter k n) ≤ k
   digits-length zero n = unfold digits in omega arith
   digits-length (suc k) n =
@@ -119,19 +121,22 @@ module _ (base letter : ℕ) (some : 0 < base) where
       (λ m. digit-zero letter n b (rw (digits-small base letter (suc k) n m) at e))
 
 module _ (w : ℕ) where
-  -- zeros in front make a short text exactly w long, and leave a long one as it is
+  -- zeros in front make a short text exactly w long
   pub padded-length : (s : List ℕ) → length s ≤ w → length (padded w s) ≡ w
   unfolding padded
   padded-length s h = rw (length-append, length-replicate) (omega arith)
 
+  -- a text that is long enough is left as it is
   pub padded-long : (s : List ℕ) → w ≤ length s → padded w s ≡ s
   unfolding padded
   padded-long s h = let e : w - length s ≡ 0 = omega arith in rw e
 
+  -- zeros in front make no text shorter
   pub padded-at-least : (s : List ℕ) → length s ≤ length (padded w s)
   unfolding padded
   padded-at-least s = rw (length-append, length-replicate) (omega arith)
 
+  -- what holds of 0 and of a text holds of the text with zeros in front
   pub padded-all : (p : ℕ → Bool) (s : List ℕ) → p 48 ≡ true → all p s ≡ true → all p (padded w s) ≡ true
   unfolding padded
   padded-all p s z e = all-append p (replicate (w - length s) 48) s (all-replicate p 48 z (w - length s)) e
@@ -180,62 +185,74 @@ u64-digits base letter j n b h g = digits-fuel base letter (omega arith) 63 j n 
 pub unpadded : (s : List ℕ) → padded 0 s ≡ s
 unpadded s = padded-long 0 s (omega arith)
 
+-- decimal text is the digits of a u64 in base 10
 pub decimal-digits : (n : ℕ) → n < 2 ^ 64 → padded 0 (digits 10 97 64 n) ≡ decimal n
 unfolding decimal
 decimal-digits n h = unpadded (digits 10 97 64 n) ∙ u64-digits 10 97 19 n (omega arith) h (omega arith)
 
--- a signed number is its decimal, or `-` and the decimal of what is missing to 2 ^ 32
+-- a signed number that is not negative is its decimal
 pub signed-decimal : (b : ℕ) → b < 2 ^ 31 → signedDecimal (signed 32 b) ≡ decimal b
 unfolding signedDecimal
 signed-decimal b h = rw (lt-ltb b (2 ^ 31) h)
 
+-- a negative number is `-` and the decimal of what is missing to 2 ^ 32
 pub minus-decimal : (b : ℕ) → 2 ^ 31 ≤ b → b < 2 ^ 32 → signedDecimal (signed 32 b) ≡ 45 ∷ decimal (2 ^ 32 - b)
 unfolding signedDecimal
 minus-decimal b h l = let e : suc (2 ^ 32 - suc b) ≡ 2 ^ 32 - b = omega arith in rw (le-ltb b (2 ^ 31) h, e)
 
--- the lengths of what is printed
+-- a printed number is not empty
 pub decimal-some : (n : ℕ) → 0 < length (decimal n)
 unfolding decimal
 decimal-some n = digits-some 10 97 (omega arith) 19 n
 
+-- a number has at most 20 decimal digits
 pub decimal-length : (n : ℕ) → length (decimal n) ≤ 20
 unfolding decimal
 decimal-length n = digits-length 10 97 (omega arith) 20 n
 
+-- a u32 has at most 10
 pub decimal-length-32 : (n : ℕ) → n < 2 ^ 32 → length (decimal n) ≤ 10
 unfolding decimal
 decimal-length-32 n h = digits-few 10 97 (omega arith) 19 9 n (omega arith) (omega arith)
 
+-- an i32 has at most 11 characters
 pub signed-length : (b : ℕ) → b < 2 ^ 32 → length (signedDecimal (signed 32 b)) ≤ 11
 signed-length b h =
     by-leb (2 ^ 31) b
     (λ l. rw (minus-decimal b l h) (omega (arith, decimal-length-32 (2 ^ 32 - b) (omega arith))))
     (λ l. rw (signed-decimal b l) (omega (arith, decimal-length-32 b (omega arith))))
 
+-- a number has at most 16 hex digits
 pub hexUpper-length : (n : ℕ) → length (hexUpper n) ≤ 16
 unfolding hexUpper
 hexUpper-length n = digits-length 16 65 (omega arith) 16 n
 
+-- in lower case too
 pub hexLower-length : (n : ℕ) → length (hexLower n) ≤ 16
 unfolding hexLower
 hexLower-length n = digits-length 16 97 (omega arith) 16 n
 
+-- a number below 16 ^ suc k has at most suc k hex digits
 pub hexUpper-few : (k n : ℕ) → n < 2 ^ 64 → n < 16 ^ suc k → length (hexUpper n) ≤ suc k
 unfolding hexUpper
 hexUpper-few k n h l = digits-few 16 65 (omega arith) 15 k n (omega arith) l
 
+-- in lower case too
 pub hexLower-few : (k n : ℕ) → n < 2 ^ 64 → n < 16 ^ suc k → length (hexLower n) ≤ suc k
 unfolding hexLower
 hexLower-few k n h l = digits-few 16 97 (omega arith) 15 k n (omega arith) l
 
+-- the 16 digits of a double are exactly 16
 pub hexUpper16-length : (n : ℕ) → n < 2 ^ 64 → length (hexUpper16 n) ≡ 16
 unfolding hexUpper16
 hexUpper16-length n h = padded-length 16 (hexUpper n) (hexUpper-length n)
 
+-- an offset below 65536 has exactly 4 digits
 pub hexLower4-length : (n : ℕ) → n < 65536 → length (hexLower4 n) ≡ 4
 unfolding hexLower4
 hexLower4-length n h = padded-length 4 (hexLower n) (hexLower-few 3 n (omega arith) (omega arith))
 
+-- and so has a character in an escape
 pub hexUpper4-length : (n : ℕ) → n < 65536 → length (hexUpper4 n) ≡ 4
 unfolding hexUpper4
 hexUpper4-length n h = padded-length 4 (hexUpper n) (hexUpper-few 3 n (omega arith) (omega arith))
@@ -245,6 +262,7 @@ pub decimal-every : (p : ℕ → Bool) → ((b : ℕ) → 48 ≤ b → b ≤ 57 
 unfolding decimal digit
 decimal-every p f n = digits-all 10 97 (omega arith) p (λ d h. rw (lt-ltb d 10 h) (f (48 + d) (omega arith) (omega arith))) 20 n
 
+-- so every character is one of 0 to 9
 pub decimal-all : (n : ℕ) → all (λ b. both (leb 48 b) (leb b 57)) (decimal n) ≡ true
 decimal-all n = decimal-every (λ b. both (leb 48 b) (leb b 57)) (λ b l h. both-yes (leb 48 b) (leb b 57) (le-leb 48 b l) (le-leb b 57 h)) n
 

@@ -1,6 +1,6 @@
 -- What is printed is read back. Assumes nothing.
 use mathlib.Core.Path.{_≡_, refl, ap, sym, _∙_}
-use mathlib.Core.Bool.{Bool, true, false}
+use mathlib.Core.Bool.{Bool, true}
 use mathlib.Core.Logic.{_⊎_, ⊎-elim}
 use mathlib.Core.Logic._⊎_.{inl, inr}
 use Prim.Native.Nat.{ℕ, zero, suc, _+_, _-_, _*_, _/_, _%_, _^_, _≤_, _<_}
@@ -8,14 +8,14 @@ use native.Mathlib.Nat.{mod-lt, div-add-mod', div-le-self, le-trans}
 use native.Mathlib.Omega.{arith}
 use mathlib.Core.List.{List, [], _∷_, _++_}
 use lib.ListN.{length, getD, replicate}
-use lib.Dec.{ltb, leb, eqb}
+use lib.Dec.{leb}
 use borrow.Author.Tests.{lt-ltb, le-ltb, le-leb, leb-true}
 use Rattle.lists.specs.Scan.{all}
 use Rattle.lists.proofs.Tests.{by-leb}
 use Rattle.spec_numbers.specs.Print.{digit, digits, padded, decimal, signedDecimal, hexLower, hexUpper, hexLower4, hexUpper4, hexUpper16}
-use Rattle.spec_numbers.specs.Parse.{Parsed, digitValue, digitsValue, unsignedValue, parseU32In, parseU32, parseHex, parseI32, negated}
+use Rattle.spec_numbers.specs.Parse.{digitValue, digitsValue, unsignedValue, parseU32, parseHex, parseI32, negated}
 use Rattle.spec_numbers.specs.TwosComplement.{signed}
-use Rattle.spec_numbers.specs.Parse.Parsed.{is, bad}
+use Rattle.spec_numbers.specs.Parse.Parsed.{is}
 use Rattle.spec_numbers.proofs.PrintLaws.{one-power, unpadded, digits-small, digits-more, digits-some, digits-all, quotient-bound, padded-at-least, padded-all, all-first, decimal-every, decimal-some, signed-decimal, minus-decimal}
 use Rattle.spec_numbers.proofs.ParseLaws.{value-of-digit, value-of-lower, value-of-upper, value-step, value-append, value-range, unsigned-some, u32-plain, i32-plain, i32-minus, minus-some}
 
@@ -64,6 +64,7 @@ zeros-back base most (suc j) s h =
     let q : 0 * base + digitValue 48 ≡ 0 = omega arith in
     value-step base most 0 48 (replicate j 48 ++ s) (omega arith) (omega arith) ∙ rw q (zeros-back base most j s h)
 
+-- so a text reads the same with zeros in front
 pub padded-back : (base most w : ℕ) (s : List ℕ) → 0 < base → digitsValue base most 0 (padded w s) ≡ digitsValue base most 0 s
 unfolding padded
 padded-back base most w s h = zeros-back base most (w - length s) s h
@@ -77,10 +78,12 @@ unsigned-back base most letter w k n some few c l h =
     ∙ padded-back base most w (digits base letter (suc k) n) some
     ∙ digits-back base most letter some few c k n h l
 
+-- decimal text is read back up to any limit
 pub unsigned-decimal : (most n : ℕ) → n ≤ most → n < 10 ^ 20 → unsignedValue 10 most (decimal n) ≡ is n
 unfolding decimal
 unsigned-decimal most n l h = ap (unsignedValue 10 most) (sym (unpadded (digits 10 97 20 n))) ∙ unsigned-back 10 most 97 0 19 n (omega arith) (omega arith) (inr refl) l h
 
+-- the 16 hex digits of a double are read back
 pub unsigned-hex16 : (n : ℕ) → n < 2 ^ 64 → unsignedValue 16 (2 ^ 64 - 1) (hexUpper16 n) ≡ is n
 unfolding hexUpper16 hexUpper
 unsigned-hex16 n h = unsigned-back 16 (2 ^ 64 - 1) 65 16 15 n (omega arith) (omega arith) (inl refl) (omega arith) (omega arith)
@@ -128,18 +131,22 @@ parse-hex letter w n c h =
     u32-plain 16 (padded w (digits 16 letter 16 n)) (λ e. omega (arith, unsigned-front letter w n c))
     ∙ unsigned-back 16 (2 ^ 32 - 1) letter w 15 n (omega arith) (omega arith) c (omega arith) (omega arith)
 
+-- in upper case
 pub parse-hexUpper : (n : ℕ) → n < 2 ^ 32 → parseHex (hexUpper n) ≡ is n
 unfolding hexUpper
 parse-hexUpper n h = ap parseHex (sym (unpadded (digits 16 65 16 n))) ∙ parse-hex 65 0 n (inl refl) h
 
+-- in lower case
 pub parse-hexLower : (n : ℕ) → n < 2 ^ 32 → parseHex (hexLower n) ≡ is n
 unfolding hexLower
 parse-hexLower n h = ap parseHex (sym (unpadded (digits 16 97 16 n))) ∙ parse-hex 97 0 n (inr refl) h
 
+-- in upper case, four digits
 pub parse-hexUpper4 : (n : ℕ) → n < 2 ^ 32 → parseHex (hexUpper4 n) ≡ is n
 unfolding hexUpper4 hexUpper
 parse-hexUpper4 n h = parse-hex 65 4 n (inl refl) h
 
+-- in lower case, four digits
 pub parse-hexLower4 : (n : ℕ) → n < 2 ^ 32 → parseHex (hexLower4 n) ≡ is n
 unfolding hexLower4 hexLower
 parse-hexLower4 n h = parse-hex 97 4 n (inr refl) h

@@ -1,9 +1,8 @@
 -- Signed numbers and their bits determine each other; wrapping sums and differences undo each other. Assumes nothing.
-use mathlib.Core.Path.{_≡_, refl, ap, sym, _∙_}
-use Prim.Native.Nat.{ℕ, zero, suc, _+_, _-_, _*_, _%_, _^_, _≤_, _<_}
+use mathlib.Core.Path.{_≡_}
+use Prim.Native.Nat.{ℕ, zero, suc, _+_, _-_, _*_, _^_, _≤_, _<_}
 use native.Mathlib.Nat.{pow-suc}
 use native.Mathlib.Omega.{arith}
-use lib.Dec.{ltb}
 use lib.IntN.{ℤ, pos, negsuc}
 use lib.Signed.{mag}
 use borrow.Author.Tests.{lt-ltb, le-ltb}
@@ -40,18 +39,20 @@ signed-bound (suc k) n p h =
     rw e
     (by-leb (2 ^ k) n (λ l. rw (le-ltb n (2 ^ k) l) (omega (arith, pow-suc 2 k))) (λ l. rw (lt-ltb n (2 ^ k) l) l))
 
--- the distance to a target that was made from a distance, and the target that a distance was made for
+-- the distance to a target that was made from a distance
 pub distance-back : (o d : ℕ) → o < 2 ^ 32 → d < 2 ^ 32 → wrapSub (wrapAdd o d) o ≡ d
 distance-back o d h l = omega arith
 
+-- the target that a distance was made for
 pub target-back : (o t : ℕ) → o < 2 ^ 32 → t < 2 ^ 32 → wrapAdd o (wrapSub t o) ≡ t
 target-back o t h l = omega arith
 
--- a byte below 128 as it is, and a larger one with 24 bits set above it
+-- a byte below 128 is its own 32 bits
 pub extend-small : (b : ℕ) → b < 128 → extend8 b ≡ b
 unfolding extend8
 extend-small b h = rw (lt-ltb b 128 h)
 
+-- a larger one has 24 bits set above it
 pub extend-large : (b : ℕ) → 128 ≤ b → b < 256 → extend8 b ≡ b + (2 ^ 32 - 256)
 unfolding extend8
 extend-large b h l = rw (le-ltb b 128 h) (omega arith)

@@ -1,10 +1,10 @@
 use borrow.Author.Needs.{needs}
 use mathlib.Core.Path.{_≡_, refl, ap, sym, _∙_}
-use Prim.Native.Nat.{_+_, _*_, _-_, _≤_}
+use Prim.Native.Nat.{_-_, _≤_}
 use native.Mathlib.Omega.{arith}
 use lib.ListN.{length, drop}
 use Rattle.spec_numbers.specs.Parse.{digitsValue}
-use Rattle.spec_numbers.proofs.ParseLaws.{turn-none, turn-over, turn-step, next-fits, next-over, value-end}
+use Rattle.spec_numbers.proofs.ParseLaws.{Turn, turn-none, turn-over, turn-step, turn-fits, turn-past, value-end}
 use Rattle.numbers.specs.Answers.{numberOf}
 use Rattle.numbers.proofs.parse.parse_digits.Statement.{statement}
 use Rattle.numbers.proofs.parse.parse_digits.Tie as tie
@@ -27,51 +27,37 @@ digit-value-requires c κs = search needs
 cast-d : tie.Need-cast-d Inv-loop μ-loop
 cast-d c = search needs
 
+-- what each way out of a turn goes by
+turn : (c : tie.After-digit-value Inv-loop μ-loop)
+    → Turn (c .before .before .before .before .before .args .base) (c .before .before .before .before .before .args .most)
+    (c .before .before .before .loop .acc) (c .digit-value .result)
+    (c .before .before .before .before .before .args .s .now) (c .before .before .before .before .before .args .from)
+    (c .before .before .before .loop .i)
+turn c = record {
+  inside = c .before .before .loop-test .taken;
+  worth = c .digit-value .ensures;
+  whole = c .before .before .before .loop .inv .1;
+}
+
 returns : tie.Need-returns Inv-loop μ-loop
-returns c =
-    let d = c .before in
-    let l = d .before .before .before .loop in
-    let a = d .before .before .before .before .before .args in
-    sym (ap numberOf (l .inv .1 ∙ turn-none (a .base) (a .most) (l .acc) (d .digit-value .result) (a .s .now) (l .i) (d .before .before .loop-test .taken) (d .digit-value .ensures) (c .if1 .taken)))
+returns c = sym (ap numberOf (turn-none (turn (c .before)) (c .if1 .taken)))
 
 returns-2 : tie.Need-returns-2 Inv-loop μ-loop
-returns-2 c =
-    let d = c .before .before in
-    let l = d .before .before .before .loop in
-    let a = d .before .before .before .before .before .args in
-    sym
-    (ap numberOf
-    (l .inv .1
-    ∙ turn-over (a .base) (a .most) (l .acc) (d .digit-value .result) (a .s .now) (l .i) (d .before .before .loop-test .taken) (d .digit-value .ensures) (c .before .if1 .left) (omega arith)))
+returns-2 c = sym (ap numberOf (turn-over (turn (c .before .before)) (c .before .if1 .left) (omega arith)))
 
 div-if3 : tie.Need-div-if3 Inv-loop μ-loop
 div-if3 c = search needs
 
 returns-3 : tie.Need-returns-3 Inv-loop μ-loop
 returns-3 c =
-    let d = c .before .before .before in
-    let l = d .before .before .before .loop in
-    let a = d .before .before .before .before .before in
-    let o = next-over (a .args .base) (a .args .most) (l .acc) (d .digit-value .result) (a .pre .1) (c .before .if2 .left) (c .if3 .taken) in
-    sym
-    (ap numberOf
-    (l .inv .1
-    ∙ turn-over (a .args .base) (a .args .most) (l .acc) (d .digit-value .result) (a .args .s .now) (l .i) (d .before .before .loop-test .taken) (d .digit-value .ensures) (c .before .before .if1 .left) o))
-
--- the next number is no larger than `most`
-fits : (c : tie.Else3 Inv-loop μ-loop)
-    → c .before .before .before .before .before .before .loop .acc * c .before .before .before .before .before .before .before .before .args .base + c .before .before .before .digit-value .result ≤ c .before .before .before .before .before .before .before .before .args .most
-fits c =
-    let d = c .before .before .before in
-    let l = d .before .before .before .loop in
-    let a = d .before .before .before .before .before in
-    next-fits (a .args .base) (a .args .most) (l .acc) (d .digit-value .result) (a .pre .1) (c .before .if2 .left) (c .if3 .left)
+    let t = turn (c .before .before .before) in
+    sym (ap numberOf (turn-over t (c .before .before .if1 .left) (turn-past t (omega arith) (c .before .if2 .left) (c .if3 .taken))))
 
 mul-acc : tie.Need-mul-acc Inv-loop μ-loop
-mul-acc c = omega (arith, fits c)
+mul-acc c = omega (arith, turn-fits (turn (c .before .before .before)) (omega arith) (c .before .if2 .left) (c .if3 .left))
 
 add-acc : tie.Need-add-acc Inv-loop μ-loop
-add-acc c = omega (arith, fits c)
+add-acc c = omega (arith, turn-fits (turn (c .before .before .before)) (omega arith) (c .before .if2 .left) (c .if3 .left))
 
 add-i : tie.Need-add-i Inv-loop μ-loop
 add-i c = search needs
@@ -81,13 +67,8 @@ loop-less c = search needs
 
 loop-again : tie.Need-loop-again Inv-loop μ-loop
 loop-again c =
-    let d = c .before .before .before in
-    let l = d .before .before .before .loop in
-    let a = d .before .before .before .before .before .args in (
-      search needs,
-      l .inv .1
-          ∙ turn-step (a .base) (a .most) (l .acc) (d .digit-value .result) (a .s .now) (l .i) (d .before .before .loop-test .taken) (d .digit-value .ensures) (c .before .before .if1 .left) (fits c),
-    )
+    let t = turn (c .before .before .before) in
+    (search needs, turn-step t (c .before .before .if1 .left) (turn-fits t (omega arith) (c .before .if2 .left) (c .if3 .left)))
 
 returns-4 : tie.Need-returns-4 Inv-loop μ-loop
 returns-4 c = sym (ap numberOf (c .before .loop .inv .1 ∙ value-end _ _ _ _ _ (c .loop-test .left)))

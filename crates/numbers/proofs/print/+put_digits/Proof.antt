@@ -35,7 +35,9 @@ abbrev put-digits-below : ℕ → In 1 put-digits-kinds.ps
 put-digits-below t =
     and 1 put-digits-kinds.ps (falls 1 put-digits-kinds.ps _<_ μ-put-digits t) put-digits.Pre
 
-put-digits-first-digit-requires : (t : ℕ) → put-digits-lts.Need-first-digit-requires (
+-- what the functions that are called ask for and tell
+abbrev calls : ℕ → put-digits-lts.Claims
+calls t = (
   first-digit-reads.Asked,
   first-digit-reads.Learnt,
   digit-char-reads.Asked,
@@ -46,67 +48,25 @@ put-digits-first-digit-requires : (t : ℕ) → put-digits-lts.Need-first-digit-
   one-less-reads.Learnt,
   put-digits-below t,
   put-digits.Post,
-) (put-digits-at t) put-digits.Post
+)
+
+put-digits-first-digit-requires : (t : ℕ) → put-digits-lts.Need-first-digit-requires (calls t) (put-digits-at t) put-digits.Post
 put-digits-first-digit-requires t c κs = search needs
 
-put-digits-digit-char-requires : (t : ℕ) → put-digits-lts.Need-digit-char-requires (
-  first-digit-reads.Asked,
-  first-digit-reads.Learnt,
-  digit-char-reads.Asked,
-  digit-char-reads.Learnt,
-  put-byte-reads.Asked,
-  put-byte-reads.Learnt,
-  one-less-reads.Asked,
-  one-less-reads.Learnt,
-  put-digits-below t,
-  put-digits.Post,
-) (put-digits-at t) put-digits.Post
+put-digits-digit-char-requires : (t : ℕ) → put-digits-lts.Need-digit-char-requires (calls t) (put-digits-at t) put-digits.Post
 put-digits-digit-char-requires t c κs =
     let a = c .before .before .before .before .args in
     let e : both (ltb (a .n) (a .base)) (leb (a .least) 1) ≡ true = sym (c .before .before .first-digit .ensures) ∙ c .before .if1 .taken in
     let h : a .n < a .base = ltb-true (a .n) (a .base) (both-left (ltb (a .n) (a .base)) (leb (a .least) 1) e) in
     search needs
 
-put-digits-put-byte-requires : (t : ℕ) → put-digits-lts.Need-put-byte-requires (
-  first-digit-reads.Asked,
-  first-digit-reads.Learnt,
-  digit-char-reads.Asked,
-  digit-char-reads.Learnt,
-  put-byte-reads.Asked,
-  put-byte-reads.Learnt,
-  one-less-reads.Asked,
-  one-less-reads.Learnt,
-  put-digits-below t,
-  put-digits.Post,
-) (put-digits-at t) put-digits.Post
+put-digits-put-byte-requires : (t : ℕ) → put-digits-lts.Need-put-byte-requires (calls t) (put-digits-at t) put-digits.Post
 put-digits-put-byte-requires t c κs = search needs
 
-put-digits-same-length : (t : ℕ) → put-digits-lts.Need-same-length (
-  first-digit-reads.Asked,
-  first-digit-reads.Learnt,
-  digit-char-reads.Asked,
-  digit-char-reads.Learnt,
-  put-byte-reads.Asked,
-  put-byte-reads.Learnt,
-  one-less-reads.Asked,
-  one-less-reads.Learnt,
-  put-digits-below t,
-  put-digits.Post,
-) (put-digits-at t) put-digits.Post
+put-digits-same-length : (t : ℕ) → put-digits-lts.Need-same-length (calls t) (put-digits-at t) put-digits.Post
 put-digits-same-length t c = search needs
 
-put-digits-returns : (t : ℕ) → put-digits-lts.Need-returns (
-  first-digit-reads.Asked,
-  first-digit-reads.Learnt,
-  digit-char-reads.Asked,
-  digit-char-reads.Learnt,
-  put-byte-reads.Asked,
-  put-byte-reads.Learnt,
-  one-less-reads.Asked,
-  one-less-reads.Learnt,
-  put-digits-below t,
-  put-digits.Post,
-) (put-digits-at t) put-digits.Post
+put-digits-returns : (t : ℕ) → put-digits-lts.Need-returns (calls t) (put-digits-at t) put-digits.Post
 put-digits-returns t c =
     let fd = c .before .before .before .before .before .before in
     let a = fd .before .before .args in
@@ -116,46 +76,13 @@ put-digits-returns t c =
     ∙ sym (padded-one (a .base) (a .letter) b (a .least) 63 (a .n) (sym (fd .first-digit .ensures) ∙ c .before .before .before .before .before .if1 .taken)))
     (c .before .before .put-byte .ensures)
 
-put-digits-div-put-digits : (t : ℕ) → put-digits-lts.Need-div-put-digits (
-  first-digit-reads.Asked,
-  first-digit-reads.Learnt,
-  digit-char-reads.Asked,
-  digit-char-reads.Learnt,
-  put-byte-reads.Asked,
-  put-byte-reads.Learnt,
-  one-less-reads.Asked,
-  one-less-reads.Learnt,
-  put-digits-below t,
-  put-digits.Post,
-) (put-digits-at t) put-digits.Post
+put-digits-div-put-digits : (t : ℕ) → put-digits-lts.Need-div-put-digits (calls t) (put-digits-at t) put-digits.Post
 put-digits-div-put-digits t c = search needs
 
-put-digits-one-less-requires : (t : ℕ) → put-digits-lts.Need-one-less-requires (
-  first-digit-reads.Asked,
-  first-digit-reads.Learnt,
-  digit-char-reads.Asked,
-  digit-char-reads.Learnt,
-  put-byte-reads.Asked,
-  put-byte-reads.Learnt,
-  one-less-reads.Asked,
-  one-less-reads.Learnt,
-  put-digits-below t,
-  put-digits.Post,
-) (put-digits-at t) put-digits.Post
+put-digits-one-less-requires : (t : ℕ) → put-digits-lts.Need-one-less-requires (calls t) (put-digits-at t) put-digits.Post
 put-digits-one-less-requires t c κs = search needs
 
-put-digits-put-digits-requires : (t : ℕ) → put-digits-lts.Need-put-digits-requires (
-  first-digit-reads.Asked,
-  first-digit-reads.Learnt,
-  digit-char-reads.Asked,
-  digit-char-reads.Learnt,
-  put-byte-reads.Asked,
-  put-byte-reads.Learnt,
-  one-less-reads.Asked,
-  one-less-reads.Learnt,
-  put-digits-below t,
-  put-digits.Post,
-) (put-digits-at t) put-digits.Post
+put-digits-put-digits-requires : (t : ℕ) → put-digits-lts.Need-put-digits-requires (calls t) (put-digits-at t) put-digits.Post
 put-digits-put-digits-requires t c κs =
     let fd = c .before .before .before in
     let a = fd .before .before .args in
@@ -163,78 +90,23 @@ put-digits-put-digits-requires t c κs =
     let l = padded-less (a .base) (a .letter) b (a .least) (a .n) (sym (fd .first-digit .ensures) ∙ c .before .before .if1 .left) (omega arith) in
     search needs
 
-put-digits-rem-digit-char : (t : ℕ) → put-digits-lts.Need-rem-digit-char (
-  first-digit-reads.Asked,
-  first-digit-reads.Learnt,
-  digit-char-reads.Asked,
-  digit-char-reads.Learnt,
-  put-byte-reads.Asked,
-  put-byte-reads.Learnt,
-  one-less-reads.Asked,
-  one-less-reads.Learnt,
-  put-digits-below t,
-  put-digits.Post,
-) (put-digits-at t) put-digits.Post
+put-digits-rem-digit-char : (t : ℕ) → put-digits-lts.Need-rem-digit-char (calls t) (put-digits-at t) put-digits.Post
 put-digits-rem-digit-char t c = search needs
 
-put-digits-digit-char-requires-2 : (t : ℕ) → put-digits-lts.Need-digit-char-requires-2 (
-  first-digit-reads.Asked,
-  first-digit-reads.Learnt,
-  digit-char-reads.Asked,
-  digit-char-reads.Learnt,
-  put-byte-reads.Asked,
-  put-byte-reads.Learnt,
-  one-less-reads.Asked,
-  one-less-reads.Learnt,
-  put-digits-below t,
-  put-digits.Post,
-) (put-digits-at t) put-digits.Post
+put-digits-digit-char-requires-2 : (t : ℕ) → put-digits-lts.Need-digit-char-requires-2 (calls t) (put-digits-at t) put-digits.Post
 put-digits-digit-char-requires-2 t c κs =
     let a = c .before .before .before .before .before .before .before .before .before in
     let b : 0 < a .args .base = omega arith in
     let h = mod-lt (a .args .n) b in
     search needs
 
-put-digits-put-byte-requires-2 : (t : ℕ) → put-digits-lts.Need-put-byte-requires-2 (
-  first-digit-reads.Asked,
-  first-digit-reads.Learnt,
-  digit-char-reads.Asked,
-  digit-char-reads.Learnt,
-  put-byte-reads.Asked,
-  put-byte-reads.Learnt,
-  one-less-reads.Asked,
-  one-less-reads.Learnt,
-  put-digits-below t,
-  put-digits.Post,
-) (put-digits-at t) put-digits.Post
+put-digits-put-byte-requires-2 : (t : ℕ) → put-digits-lts.Need-put-byte-requires-2 (calls t) (put-digits-at t) put-digits.Post
 put-digits-put-byte-requires-2 t c κs = search needs
 
-put-digits-same-length-2 : (t : ℕ) → put-digits-lts.Need-same-length-2 (
-  first-digit-reads.Asked,
-  first-digit-reads.Learnt,
-  digit-char-reads.Asked,
-  digit-char-reads.Learnt,
-  put-byte-reads.Asked,
-  put-byte-reads.Learnt,
-  one-less-reads.Asked,
-  one-less-reads.Learnt,
-  put-digits-below t,
-  put-digits.Post,
-) (put-digits-at t) put-digits.Post
+put-digits-same-length-2 : (t : ℕ) → put-digits-lts.Need-same-length-2 (calls t) (put-digits-at t) put-digits.Post
 put-digits-same-length-2 t c = search needs
 
-put-digits-returns-2 : (t : ℕ) → put-digits-lts.Need-returns-2 (
-  first-digit-reads.Asked,
-  first-digit-reads.Learnt,
-  digit-char-reads.Asked,
-  digit-char-reads.Learnt,
-  put-byte-reads.Asked,
-  put-byte-reads.Learnt,
-  one-less-reads.Asked,
-  one-less-reads.Learnt,
-  put-digits-below t,
-  put-digits.Post,
-) (put-digits-at t) put-digits.Post
+put-digits-returns-2 : (t : ℕ) → put-digits-lts.Need-returns-2 (calls t) (put-digits-at t) put-digits.Post
 put-digits-returns-2 t c =
     let call = c .before .before .before .before .before .before .before in
     let fd = call .before .before .before .before in
@@ -250,18 +122,7 @@ put-digits-returns-2 t c =
     same-piece e (call .put-digits .ensures then c .before .before .put-byte2 .ensures)
 
 pub +put-digits-spec : {M : Type 1} → statement M
-+put-digits-spec = close μ-put-digits λ t. put-digits-lts.spec (
-  first-digit-reads.Asked,
-  first-digit-reads.Learnt,
-  digit-char-reads.Asked,
-  digit-char-reads.Learnt,
-  put-byte-reads.Asked,
-  put-byte-reads.Learnt,
-  one-less-reads.Asked,
-  one-less-reads.Learnt,
-  put-digits-below t,
-  put-digits.Post,
-)
++put-digits-spec = close μ-put-digits λ t. put-digits-lts.spec (calls t)
     (put-digits-at t)
     put-digits.Post
     (put-digits-first-digit-requires t)

@@ -1,8 +1,7 @@
 // Numbers from text, as Rust's `str::parse` and `from_str_radix` read them. Both of Rust's errors, a byte that is no
 // digit and a number that is too large, are one answer here.
 ghost use mathlib.Core.Path.{_≡_};
-ghost use mathlib.Core.Bool.{Bool};
-ghost use Prim.Native.Nat.{ℕ, _^_, _<_, _≤_};
+ghost use Prim.Native.Nat.{_^_, _<_, _≤_};
 ghost use lib.Dec.{leb};
 ghost use lib.ListN.{length, drop};
 ghost use Rattle.lists.specs.Choice.{both};

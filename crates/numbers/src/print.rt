@@ -1,6 +1,5 @@
 // Numbers as text, through the counting writer.
 ghost use mathlib.Core.Path.{_≡_};
-ghost use mathlib.Core.Bool.{Bool};
 ghost use Prim.Native.Nat.{_-_, _<_, _≤_};
 ghost use lib.Dec.{ltb, leb};
 ghost use Rattle.lists.specs.Choice.{both};

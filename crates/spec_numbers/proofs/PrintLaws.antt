@@ -68,8 +68,9 @@ module _ (base letter : ℕ) (some : 0 < base) where
   digits-fuel zero k n g h = digits-small base letter 0 n (one-power base n g) ∙ sym (digits-small base letter k n (one-power base n g))
   digits-fuel (suc j) zero n g h = digits-small base letter (suc j) n (one-power base n h) ∙ sym (digits-small base letter 0 n (one-power base n h))
   digits-fuel (suc j) (suc k) n g h =
+      let q = digits-fuel j k (n / base) (quotient-bound base (suc j) n some g) (quotient-bound base (suc k) n some h) in
       by-leb base n
-      (λ m. rw (digits-more base letter (suc j) n m, digits-more base letter (suc k) n m, digits-fuel j k (n / base) (quotient-bound base (suc j) n some g) (quotient-bound base (suc k) n some h)))
+      (λ m. rw (digits-more base letter (suc j) n m, digits-more base letter (suc k) n m, q))
       (λ m. digits-small base letter (suc j) n m ∙ sym (digits-small base letter (suc k) n m))
 
   -- the last digit, where the fuel lasts

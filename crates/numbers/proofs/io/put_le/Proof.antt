@@ -13,7 +13,8 @@ use Rattle.numbers.proofs.io.put_le.Tie as tie
 
 abbrev Inv-loop : tie.InvT-loop
 Inv-loop out₀ at w v k₀ left₀ rest₀ out k left rest =
-    (k ≤ top) × (length out ≡ length out₀) × ((o : List ℕ) (r : ℕ) → Put out k (leBytes left rest) o r → Put out₀ at (leBytes w v) o r)
+    (k ≤ top) × (length out ≡ length out₀)
+    × ((o : List ℕ) (r : ℕ) → Put out k (leBytes left rest) o r → Put out₀ at (leBytes w v) o r)
 
 abbrev μ-loop : tie.MeasureT-loop
 μ-loop out₀ at w v k₀ left₀ rest₀ out k left rest = left
@@ -38,7 +39,8 @@ loop-again c =
     let b = c .before .before .put-byte in
     let t = c .before .before .before .before in
     let l = t .before .loop in
-    (omega (arith, b .ensures .next), kept-length (b .ensures) ∙ l .inv .1, λ o r q. l .inv .2 o r (same-piece (sym (leBytes-step (l .left) (l .rest) (t .loop-test .taken))) (b .ensures then q)))
+    let e = leBytes-step (l .left) (l .rest) (t .loop-test .taken) in
+    (omega (arith, b .ensures .next), kept-length (b .ensures) ∙ l .inv .1, λ o r q. l .inv .2 o r (same-piece (sym e) (b .ensures then q)))
 
 same-length : tie.Need-same-length Inv-loop μ-loop
 same-length c = c .before .loop .inv .1

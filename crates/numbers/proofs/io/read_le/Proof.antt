@@ -32,7 +32,9 @@ add-b c = search needs
 shared-slice-read-b : tie.Need-shared-slice-read-b Inv-loop μ-loop
 shared-slice-read-b c = search needs
 
-byte : (c : tie.After-shared-slice-known Inv-loop μ-loop) → getD (c .before .before .before .args .s .now) (c .before .before .before .args .at + (c .before .before .loop .k - 1)) 0 < 256
+-- the byte that is read is one
+byte : (c : tie.After-shared-slice-known Inv-loop μ-loop)
+    → getD (c .before .before .before .args .s .now) (c .before .before .before .args .at + (c .before .before .loop .k - 1)) 0 < 256
 byte c = c .shared-slice-known .given (c .before .before .before .args .at + (c .before .before .loop .k - 1)) .fits
 
 -- what was read so far leaves room for one byte more
@@ -40,7 +42,8 @@ room : (c : tie.After-shared-slice-known Inv-loop μ-loop) → c .before .before
 room c =
     let l = c .before .before .loop in
     let a = c .before .before .before .args in
-    rw (l .inv .1) (le-room (a .n - l .k) (drop (a .at + l .k) (a .s .now)) (bytes-drop (a .s .now) (a .at + l .k) (λ i. c .shared-slice-known .given i .fits)) (omega arith))
+    let b = bytes-drop (a .s .now) (a .at + l .k) (λ i. c .shared-slice-known .given i .fits) in
+    rw (l .inv .1) (le-room (a .n - l .k) (drop (a .at + l .k) (a .s .now)) b (omega arith))
 
 cast-b : tie.Need-cast-b Inv-loop μ-loop
 cast-b c = omega (arith, byte c)

@@ -4,3 +4,5 @@ pub mod ReadBackLaws
 pub mod ByteLaws
 pub mod SignedLaws
 pub mod NumberTrials
+pub mod ZeroLaws
+pub mod WholeLaws

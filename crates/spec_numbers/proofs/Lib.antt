@@ -6,3 +6,5 @@ pub mod SignedLaws
 pub mod NumberTrials
 pub mod ZeroLaws
 pub mod WholeLaws
+pub mod DoubleLaws
+pub mod DoubleTrials

@@ -1,0 +1,3 @@
+pub mod NanLaws
+pub mod PlaceLaws
+pub mod ReadLaws

@@ -87,11 +87,11 @@ sign-set : (bits : ℕ) → (signOf bits ≡ 0 → ⊥) → signText (signOf bit
 unfolding signText
 sign-set bits z = rw (ne-eqb _ _ z)
 
-decimal-few : (n : ℕ) → n < 10 ^ 16 → length (decimal n) ≤ 16
+pub decimal-few : (n : ℕ) → n < 10 ^ 16 → length (decimal n) ≤ 16
 unfolding decimal
 decimal-few n h = digits-few 10 97 (omega arith) 19 15 n (omega arith) h
 
-hex16-length : (n : ℕ) → length (hexUpper16 n) ≡ 16
+pub hex16-length : (n : ℕ) → length (hexUpper16 n) ≡ 16
 unfolding hexUpper16 hexUpper
 hex16-length n = padded-length 16 (digits 16 65 16 n) (digits-length 16 65 (omega arith) 16 n)
 

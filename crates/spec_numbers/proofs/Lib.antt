@@ -7,4 +7,5 @@ pub mod NumberTrials
 pub mod ZeroLaws
 pub mod WholeLaws
 pub mod DoubleLaws
+pub mod DoubleTextLaws
 pub mod DoubleTrials

@@ -1,4 +1,5 @@
 // The opcode sheet: its text is read once into tables by opcode, which every later layer is lent.
 pub mod line;
+pub mod opcode;
 pub mod scan;
 pub mod types;

@@ -1,3 +1,4 @@
 pub mod TypeLaws
 pub mod ScanLaws
+pub mod NameLaws
 pub mod SheetTrials

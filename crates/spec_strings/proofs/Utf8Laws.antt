@@ -1,0 +1,71 @@
+-- Laws of UTF-8 by states: over an index, over joined texts, and of ASCII. Assumes nothing.
+use mathlib.Core.Path.{_≡_, refl, ap, sym, _∙_}
+use mathlib.Core.Bool.{Bool, true, false}
+use Prim.Native.Nat.{ℕ, _+_, _≤_, _<_}
+use native.Mathlib.Numerals.{add-one}
+use mathlib.Core.List.{List, [], _∷_, _++_}
+use lib.Dec.{eqb, ltb}
+use borrow.Author.Tests.{lt-ltb, ltb-true, eqb-true}
+use lib.ListN.{length, drop, getD, drop-of-length-le}
+use lib.Seq.{drop-cons}
+use Rattle.lists.specs.Scan.{all}
+use Rattle.lists.proofs.Tests.{both-left, both-right}
+use Rattle.spec_strings.specs.Utf8.{broken, afterLead, afterNext, step, utf8From, isUtf8, leadBits, bitsAfter, charsFrom, chars}
+
+-- a byte below 128
+abbrev pub ascii : ℕ → Bool
+ascii b = ltb b 128
+
+-- a byte below 128 is a character by itself
+pub step-ascii : (b : ℕ) → b < 128 → step 0 b ≡ 0
+unfolding step afterLead
+step-ascii b h = rw (lt-ltb b 128 h)
+
+pub bits-ascii : (b : ℕ) → b < 128 → bitsAfter 0 0 b ≡ b
+unfolding bitsAfter leadBits
+bits-ascii b h = rw (lt-ltb b 128 h)
+
+-- what breaks the form is never mended
+pub step-broken : (b : ℕ) → step broken b ≡ broken
+unfolding step afterNext
+step-broken b = refl
+
+pub utf8-broken : (s : List ℕ) → utf8From broken s ≡ false
+unfolding utf8From
+utf8-broken [] = refl
+utf8-broken (b ∷ s) = ap (λ (st : ℕ). utf8From st s) (step-broken b) ∙ utf8-broken s
+
+-- what a loop's invariant steps by
+module _ (st : ℕ) (s : List ℕ) (i : ℕ) where
+  pub utf8-at : {x : ℕ} → i < length s → x ≡ step st (getD s i 0) → utf8From st (drop i s) ≡ utf8From x (drop (i + 1) s)
+  unfolding utf8From
+  utf8-at h e = rw (e, add-one i) (ap (utf8From st) (drop-cons s i 0 h))
+
+  pub utf8-end : length s ≤ i → utf8From st (drop i s) ≡ eqb st 0
+  unfolding utf8From
+  utf8-end h = rw (drop-of-length-le s h)
+
+  pub utf8-skip : st ≡ 0 → i < length s → getD s i 0 < 128 → utf8From st (drop i s) ≡ utf8From st (drop (i + 1) s)
+  utf8-skip e h k = utf8-at h (rw e (sym (step-ascii (getD s i 0) k)))
+
+-- a text that is complete, and another behind it
+pub utf8-append : (st : ℕ) (s t : List ℕ) → utf8From st s ≡ true → utf8From st (s ++ t) ≡ isUtf8 t
+unfolding utf8From
+utf8-append st [] t e = ap (λ (x : ℕ). utf8From x t) (eqb-true st 0 e)
+utf8-append st (b ∷ s) t e = utf8-append (step st b) s t e
+
+-- ASCII text is UTF-8, and its characters are its bytes
+pub ascii-utf8 : (s : List ℕ) → all ascii s ≡ true → isUtf8 s ≡ true
+unfolding all utf8From
+ascii-utf8 [] e = refl
+ascii-utf8 (b ∷ s) e =
+    ap (λ (st : ℕ). utf8From st s) (step-ascii b (ltb-true b 128 (both-left (ascii b) (all ascii s) e)))
+    ∙ ascii-utf8 s (both-right (ascii b) (all ascii s) e)
+
+pub ascii-chars : (s : List ℕ) → all ascii s ≡ true → chars s ≡ s
+unfolding all charsFrom
+ascii-chars [] e = refl
+ascii-chars (b ∷ s) e =
+    let h : b < 128 = ltb-true b 128 (both-left (ascii b) (all ascii s) e) in
+    let ih : chars s ≡ s = ascii-chars s (both-right (ascii b) (all ascii s) e) in
+    rw (step-ascii b h, bits-ascii b h, ih)

@@ -49,13 +49,13 @@ module _ (bytes ends : List ℕ) (start i : ℕ) where
     pub fault-stop : wellFormed bytes start e ≡ false → faultFrom bytes start i (drop i ends) ≡ found i
     fault-stop t = rw here (fault-cons-stop bytes start i e _ t)
 
-    module _ (text : List ℕ) where
-      pub lookup-go : same (part bytes start (e - start)) text ≡ false
-          → lookupFrom text bytes start i (drop i ends) ≡ lookupFrom text bytes e (i + 1) (drop (i + 1) ends)
-      lookup-go t = rw here (lookup-cons-go bytes start i e _ text t) ∙ ap (λ (k : ℕ). lookupFrom text bytes e k (drop (i + 1) ends)) (sym (add-one i))
+    module _ (text : List ℕ) {entry : List ℕ} (x : entry ≡ part bytes start (e - start)) where
+      pub lookup-go : same entry text ≡ false → lookupFrom text bytes start i (drop i ends) ≡ lookupFrom text bytes e (i + 1) (drop (i + 1) ends)
+      lookup-go t =
+          rw here (lookup-cons-go bytes start i e _ text (rw x at t)) ∙ ap (λ (k : ℕ). lookupFrom text bytes e k (drop (i + 1) ends)) (sym (add-one i))
 
-      pub lookup-stop : same (part bytes start (e - start)) text ≡ true → lookupFrom text bytes start i (drop i ends) ≡ found i
-      lookup-stop t = rw here (lookup-cons-stop bytes start i e _ text t)
+      pub lookup-stop : same entry text ≡ true → lookupFrom text bytes start i (drop i ends) ≡ found i
+      lookup-stop t = rw here (lookup-cons-stop bytes start i e _ text (rw x at t))
 
   pub fault-end : length ends ≤ i → faultFrom bytes start i (drop i ends) ≡ missing
   unfolding faultFrom

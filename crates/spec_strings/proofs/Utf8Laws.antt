@@ -5,7 +5,8 @@ use Prim.Native.Nat.{ℕ, _+_, _≤_, _<_}
 use native.Mathlib.Numerals.{add-one}
 use mathlib.Core.List.{List, [], _∷_, _++_}
 use lib.Dec.{eqb, ltb}
-use borrow.Author.Tests.{lt-ltb, ltb-true, eqb-true}
+use native.Mathlib.Omega.{arith}
+use borrow.Author.Tests.{ne-eqb, lt-ltb, ltb-true, eqb-true}
 use lib.ListN.{length, drop, getD, drop-of-length-le}
 use lib.Seq.{drop-cons}
 use Rattle.lists.specs.Scan.{all}
@@ -26,14 +27,16 @@ unfolding bitsAfter leadBits
 bits-ascii b h = rw (lt-ltb b 128 h)
 
 -- what breaks the form is never mended
-pub step-broken : (b : ℕ) → step broken b ≡ broken
+pub step-broken : (st b : ℕ) → broken ≤ st → step st b ≡ broken
 unfolding step afterNext
-step-broken b = refl
+step-broken st b h =
+    let n : (k : ℕ) → k < 8 → eqb st k ≡ false = λ k l. ne-eqb st k (λ z. omega arith) in
+    rw (n 0 (omega arith), n 1 (omega arith), n 2 (omega arith), n 3 (omega arith), n 4 (omega arith), n 5 (omega arith), n 6 (omega arith), n 7 (omega arith))
 
 pub utf8-broken : (s : List ℕ) → utf8From broken s ≡ false
 unfolding utf8From
 utf8-broken [] = refl
-utf8-broken (b ∷ s) = ap (λ (st : ℕ). utf8From st s) (step-broken b) ∙ utf8-broken s
+utf8-broken (b ∷ s) = ap (λ (st : ℕ). utf8From st s) (step-broken broken b (omega arith)) ∙ utf8-broken s
 
 -- what a loop's invariant steps by
 module _ (st : ℕ) (s : List ℕ) (i : ℕ) where

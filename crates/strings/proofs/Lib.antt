@@ -1,1 +1,4 @@
-pub mod Clamps
+pub mod Entries
+pub mod LeftToWrite
+pub mod CharBits
+pub mod TextTurns

@@ -1,9 +1,9 @@
 // The string table: bytes and the ends of its entries.
 ghost use mathlib.Core.Path.{_≡_};
-ghost use Prim.Native.Nat.{_-_, _≤_, min};
+ghost use Prim.Native.Nat.{_-_, _≤_};
 ghost use lib.ListN.{length};
 ghost use Rattle.lists.specs.Scan.{part};
-ghost use Rattle.spec_strings.specs.Table.{tooLarge, fault, wellFormed};
+ghost use Rattle.spec_strings.specs.Table.{tooLarge, fault, wellFormed, lookup};
 ghost use Rattle.strings.specs.Answers.{foundOf, entryOf};
 
 // The index that was looked for, or that there is none.
@@ -34,19 +34,14 @@ fn wide(x: u32) -> usize
     x as usize
 }
 
-fn least(a: usize, b: usize) -> usize
-    ensures { λ r. ⌜ (r ≡ min a b) × (r ≤ b) ⌝ }
-{
-    if a < b { a } else { b }
-}
-
-// The bytes from start to end, as far as there are any: ends may fall or pass the bytes.
+// The text from start to end, as far as there is any: the ends may fall or pass the bytes.
 fn entry_part(bytes: &[u8], start: usize, end: usize) -> &[u8]
     ensures { λ r. ⌜ now r ≡ part (now (bytes .entry)) start (end - start) ⌝ }
 {
-    let e = least(end, bytes.len());
-    let s = least(start, e);
-    &bytes[s..e]
+    if end < start {
+        return slices::part::part_of(bytes, start, 0);
+    }
+    slices::part::part_of(bytes, start, end - start)
 }
 
 // Whether an entry is in order: refusal 17.
@@ -90,4 +85,22 @@ pub fn string_at(ends: &[u32], id: usize) -> Entry
         return Entry::Text(0, wide(ends[id]));
     }
     Entry::Text(wide(ends[id - 1]), wide(ends[id]))
+}
+
+// The first id whose text is equal. Lengths are compared before bytes.
+pub fn lookup(text: &[u8], bytes: &[u8], ends: &[u32]) -> Found
+    ensures { λ r. ⌜ r ≡ foundOf (lookup (now (text .entry)) (now (bytes .entry)) (now (ends .entry))) ⌝ }
+{
+    let mut start: usize = 0;
+    let mut i: usize = 0;
+    while i < ends.len() {
+        let end = wide(ends[i]);
+        let entry = entry_part(bytes, start, end);
+        if slices::compare::same_bytes(entry, text) {
+            return Found::At(i);
+        }
+        start = end;
+        i += 1;
+    }
+    Found::Missing
 }

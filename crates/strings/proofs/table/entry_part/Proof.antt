@@ -1,29 +1,24 @@
-use Rattle.strings.proofs.Clamps.{clamped}
+use mathlib.Core.Path.{_≡_}
+use native.Mathlib.Omega.{arith}
+use Prim.Native.Nat.{_-_}
 use borrow.Author.Needs.{needs}
 use Rattle.strings.proofs.table.entry_part.Statement.{statement}
 use Rattle.strings.proofs.table.entry_part.Tie as tie
 
-least-requires : tie.Need-least-requires
-least-requires c κs = search needs
-
-least-requires-2 : tie.Need-least-requires-2
-least-requires-2 c κs = search needs
-
-sub-result : tie.Need-sub-result
-sub-result c = search needs
-
-part-result-start : tie.Need-part-result-start
-part-result-start c = search needs
-
-part-result-end : tie.Need-part-result-end
-part-result-end c = search needs
+part-of-requires : tie.Need-part-of-requires
+part-of-requires c κs = search needs
 
 returns : tie.Need-returns
 returns c =
-    let a = c .before .before .before .before .args in
-    clamped (a .bytes .now) (a .start) (a .end) _ _ (c .before .before .least .ensures .0) (c .before .least2 .ensures .0)
+    let a = c .before .before .before .args in
+    let z : a .end - a .start ≡ 0 = omega arith in
+    rw z (c .part-of .ensures)
+
+part-of-requires-2 : tie.Need-part-of-requires-2
+part-of-requires-2 c κs = search needs
+
+returns-2 : tie.Need-returns-2
+returns-2 c = search needs
 
 pub entry-part-spec : {M : Type 1} → statement M
-entry-part-spec =
-    tie.close
-    (tie.spec least-requires least-requires-2 sub-result part-result-start part-result-end returns)
+entry-part-spec = tie.close (tie.spec part-of-requires returns part-of-requires-2 returns-2)

@@ -1,4 +1,4 @@
-use Rattle.strings.proofs.Clamps.{entry-first, entry-next}
+use Rattle.strings.proofs.Entries.{entry-first, entry-next}
 use native.Mathlib.Omega.{arith}
 use Rattle.strings.specs.Answers.{entryOf}
 use borrow.Author.Tests.{le-ltb}

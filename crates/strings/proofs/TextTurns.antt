@@ -1,0 +1,78 @@
+-- What one byte of a text adds to what is written of it. Assumes nothing.
+use mathlib.Core.Path.{_≡_, refl, _∙_}
+use mathlib.Core.Bool.{Bool, true, false}
+use Prim.Native.Nat.{ℕ, suc, _+_, _≤_, _<_}
+use native.Mathlib.Numerals.{add-one}
+use mathlib.Core.List.{List, [], _∷_, _++_}
+use lib.Dec.{eqb}
+use borrow.Author.Tests.{ne-eqb, eqb-true}
+use lib.ListN.{length, drop, getD, drop-of-length-le}
+use lib.Seq.{drop-cons}
+use Rattle.lists.specs.Choice.{pick}
+use Rattle.lists.specs.Scan.{all}
+use Rattle.lists.proofs.Tests.{by-test}
+use Rattle.spec_strings.specs.Utf8.{within, broken, step, bitsAfter, charsFrom}
+use Rattle.spec_strings.specs.Escape.{escape, unicode, escapeAll, unescape}
+use Rattle.strings.specs.Turns.{wholeText, carriedBits, readText, slashAfter}
+
+-- a character without a short escape
+pub escape-long : (c : ℕ) → (c ≡ 34 → ⊥) → (c ≡ 92 → ⊥) → (c ≡ 10 → ⊥) → (c ≡ 13 → ⊥) → (c ≡ 9 → ⊥) → (c ≡ 0 → ⊥)
+    → escape c ≡ pick (within 32 126 c) (c ∷ []) (unicode c)
+unfolding escape
+escape-long c n34 n92 n10 n13 n9 n0 =
+    rw (ne-eqb c 34 n34, ne-eqb c 92 n92, ne-eqb c 10 n10, ne-eqb c 13 n13, ne-eqb c 9 n9, ne-eqb c 0 n0)
+
+-- a byte of a text that is escaped
+chars-cons : (st acc b : ℕ) (s : List ℕ) → (step st b ≡ broken → ⊥)
+    → escapeAll (charsFrom st acc (b ∷ s)) ≡ wholeText (step st b) (bitsAfter st acc b) ++ escapeAll (charsFrom (step st b) (carriedBits (step st b) (bitsAfter st acc b)) s)
+unfolding charsFrom escapeAll
+chars-cons st acc b s n =
+    by-test (eqb (step st b) 0)
+    (λ t. rw (t, charsFrom, eqb-true (step st b) 0 t))
+    (λ t. rw (t, charsFrom, ne-eqb (step st b) broken n))
+
+chars-broken : (st acc b : ℕ) (s : List ℕ) → step st b ≡ broken → escapeAll (charsFrom st acc (b ∷ s)) ≡ []
+unfolding charsFrom escapeAll
+chars-broken st acc b s e = rw (charsFrom, e)
+
+module _ (s : List ℕ) (i : ℕ) where
+  pub escape-turn : (st acc : ℕ) {next bits carry : ℕ} → i < length s → next ≡ step st (getD s i 0) → (next ≡ broken → ⊥) → bits ≡ bitsAfter st acc (getD s i 0) → carry ≡ carriedBits next bits
+      → escapeAll (charsFrom st acc (drop i s)) ≡ wholeText next bits ++ escapeAll (charsFrom next carry (drop (i + 1) s))
+  escape-turn st acc h e n q k =
+      rw (k, e, q, add-one i, drop-cons s i 0 h) (chars-cons st acc (getD s i 0) (drop (suc i) s) (λ z. n (e ∙ z)))
+
+  pub escape-broken : (st acc : ℕ) → i < length s → step st (getD s i 0) ≡ broken → escapeAll (charsFrom st acc (drop i s)) ≡ []
+  escape-broken st acc h e = rw (drop-cons s i 0 h) (chars-broken st acc (getD s i 0) (drop (suc i) s) e)
+
+  pub escape-end : (st acc : ℕ) → length s ≤ i → escapeAll (charsFrom st acc (drop i s)) ≡ []
+  unfolding charsFrom escapeAll
+  escape-end st acc h = rw (drop-of-length-le s h)
+
+-- a byte of a text that is read back
+read-cons : (slash : Bool) (b : ℕ) (s : List ℕ) → unescape slash (b ∷ s) ≡ readText slash b ++ unescape (slashAfter slash b) s
+unfolding unescape
+read-cons true b s = refl
+read-cons false b s = by-test (eqb b 92) (λ t. rw (t, unescape)) (λ t. rw (t, unescape))
+
+module _ (s : List ℕ) (i : ℕ) where
+  pub read-turn : (slash : Bool) {next : Bool} → i < length s → next ≡ slashAfter slash (getD s i 0)
+      → unescape slash (drop i s) ≡ readText slash (getD s i 0) ++ unescape next (drop (i + 1) s)
+  read-turn slash h e = rw (e, add-one i, drop-cons s i 0 h) (read-cons slash (getD s i 0) (drop (suc i) s))
+
+  pub read-end : (slash : Bool) → length s ≤ i → unescape slash (drop i s) ≡ []
+  unfolding unescape
+  read-end slash h = rw (drop-of-length-le s h)
+
+-- every element passes, from an index on
+module _ (p : ℕ → Bool) (s : List ℕ) (i : ℕ) where
+  pub all-go : i < length s → p (getD s i 0) ≡ true → all p (drop i s) ≡ all p (drop (i + 1) s)
+  unfolding all
+  all-go h e = rw (add-one i, drop-cons s i 0 h, e)
+
+  pub all-stop : i < length s → p (getD s i 0) ≡ false → all p (drop i s) ≡ false
+  unfolding all
+  all-stop h e = rw (drop-cons s i 0 h, e)
+
+  pub all-end : length s ≤ i → all p (drop i s) ≡ true
+  unfolding all
+  all-end h = rw (drop-of-length-le s h)

@@ -1,0 +1,23 @@
+-- What one turn of a loop over a text adds and carries on. Assumes nothing.
+use Prim.Native.Nat.{ℕ}
+use mathlib.Core.Bool.{Bool, true, false}
+use mathlib.Core.List.{List, [], _∷_}
+use lib.Dec.{eqb}
+use Rattle.lists.specs.Choice.{pick}
+use Rattle.spec_strings.specs.Escape.{escape, meant}
+
+-- the escape of a character that is whole, and nothing of one that is not
+abbrev pub wholeText : ℕ → ℕ → List ℕ
+wholeText st c = pick (eqb st 0) (escape c) []
+
+abbrev pub carriedBits : ℕ → ℕ → ℕ
+carriedBits st bits = pick (eqb st 0) 0 bits
+
+-- what a byte adds to a text that is read back, and whether the next one stands behind a backslash
+abbrev pub readText : Bool → ℕ → List ℕ
+readText true b = meant b ∷ []
+readText false b = pick (eqb b 92) [] (b ∷ [])
+
+abbrev pub slashAfter : Bool → ℕ → Bool
+slashAfter true b = false
+slashAfter false b = eqb b 92

@@ -1,2 +1,5 @@
 pub mod Utf8Laws
+pub mod TableSteps
 pub mod TableLaws
+pub mod EscapeLaws
+pub mod StringTrials

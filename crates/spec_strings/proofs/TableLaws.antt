@@ -1,66 +1,136 @@
--- Laws of the string table: how a loop steps, what a lookup answers, and what a table without fault has. Assumes nothing.
-use mathlib.Core.Path.{_≡_, ap, sym, _∙_}
-use mathlib.Core.Bool.{true, false}
+-- Laws of the string table: what a lookup answers, and what a table without fault has. Assumes nothing.
+use mathlib.Core.Path.{_≡_, refl, ap, sym, _∙_}
+use mathlib.Core.Bool.{Bool, true, false}
 use Prim.Native.Nat.{ℕ, zero, suc, _+_, _-_, _≤_, _<_}
-use native.Mathlib.Numerals.{add-one}
 use native.Mathlib.Omega.{arith}
-use mathlib.Core.List.{List, _∷_}
-use lib.ListN.{length, drop, getD, drop-of-length-le}
-use lib.Seq.{drop-cons}
+use mathlib.Core.List.{List, [], _∷_, _++_}
+use lib.Dec.{leb}
+use borrow.Author.Tests.{leb-true}
+use lib.ListN.{length, getD}
 use Rattle.lists.specs.Scan.{same, part}
+use Rattle.lists.specs.Found.{Found}
 use Rattle.lists.specs.Found.Found.{found, missing}
-use Rattle.spec_strings.specs.Table.{startOf, wellFormed, faultFrom, lookupFrom}
+use Rattle.lists.proofs.Tests.{both-left, both-right, by-test, by-leb, true-not-false}
+use Rattle.lists.proofs.Scans.{same-eq, same-refl}
+use Rattle.spec_strings.specs.Utf8.{isUtf8}
+use Rattle.spec_strings.specs.Table.{startOf, endOf, textOf, wellFormed, faultFrom, fault, lookupFrom, lookup}
+use Rattle.spec_strings.proofs.TableSteps.{fault-cons-go, fault-cons-stop, lookup-cons-go, lookup-cons-stop}
 
--- an entry behind the first starts where the one before it ends
-pub start-next : (ends : List ℕ) (id : ℕ) → 0 < id → startOf ends id ≡ getD ends (id - 1) 0
-start-next ends zero h = absurd (omega arith)
-start-next ends (suc id) h =
-    let e : suc id - 1 ≡ id = omega arith in
-    rw e
+-- the text of the k-th entry of `es`, the first of which starts at `start`
+abbrev textFrom : List ℕ → ℕ → List ℕ → ℕ → List ℕ
+textFrom bytes start es k = part bytes (getD (start ∷ es) k 0) (getD es k 0 - getD (start ∷ es) k 0)
 
--- the clauses, by their test
-module _ (bytes : List ℕ) (start id e : ℕ) (es : List ℕ) where
-  pub fault-cons-go : wellFormed bytes start e ≡ true → faultFrom bytes start id (e ∷ es) ≡ faultFrom bytes e (suc id) es
-  unfolding faultFrom
-  fault-cons-go h = rw (h, faultFrom)
+-- what a lookup that answers i says
+record Hit (text bytes : List ℕ) (start id : ℕ) (es : List ℕ) (i : ℕ) : Type 0 where
+  steps : ℕ
+  place : i ≡ id + steps
+  there : steps < length es
+  equal : textFrom bytes start es steps ≡ text
+  first : (j : ℕ) → j < steps → textFrom bytes start es j ≡ text → ⊥
 
-  pub fault-cons-stop : wellFormed bytes start e ≡ false → faultFrom bytes start id (e ∷ es) ≡ found id
-  unfolding faultFrom
-  fault-cons-stop h = rw (h, faultFrom)
+hit-here : {text bytes es : List ℕ} {start id e i : ℕ} → same (part bytes start (e - start)) text ≡ true → i ≡ id → Hit text bytes start id (e ∷ es) i
+hit-here t q = record { steps = 0; place = omega arith; there = omega arith; equal = same-eq _ _ t; first = λ j h x. omega arith }
 
-  module _ (text : List ℕ) where
-    pub lookup-cons-stop : same (part bytes start (e - start)) text ≡ true → lookupFrom text bytes start id (e ∷ es) ≡ found id
-    unfolding lookupFrom
-    lookup-cons-stop h = rw (h, lookupFrom)
+hit-later : {text bytes es : List ℕ} {start id e i : ℕ} → same (part bytes start (e - start)) text ≡ false → Hit text bytes e (suc id) es i → Hit text bytes start id (e ∷ es) i
+hit-later {text} {bytes} {es} {start} {id} {e} t h = record {
+  steps = suc (h .steps);
+  place = omega (arith, h .place);
+  there = omega (arith, h .there);
+  equal = h .equal;
+  first = none;
+}
+  where
+    none : (j : ℕ) → j < suc (h .steps) → textFrom bytes start (e ∷ es) j ≡ text → ⊥
+    none zero l x = true-not-false (same (part bytes start (e - start)) text) (rw x (same-refl text)) t
+    none (suc j) l x = h .first j (omega arith) x
 
-    pub lookup-cons-go : same (part bytes start (e - start)) text ≡ false → lookupFrom text bytes start id (e ∷ es) ≡ lookupFrom text bytes e (suc id) es
-    unfolding lookupFrom
-    lookup-cons-go h = rw (h, lookupFrom)
+lookup-hit : (text bytes : List ℕ) (start id : ℕ) (es : List ℕ) (i : ℕ) → lookupFrom text bytes start id es ≡ found i → Hit text bytes start id es i
+unfolding lookupFrom
+lookup-hit text bytes start id [] i q = absurd (let z : _≡_ {A = ℕ} 0 1 = cc in omega arith)
+lookup-hit text bytes start id (e ∷ es) i q = go (lookup-hit text bytes e (suc id) es i) (same (part bytes start (e - start)) text) refl
+  where
+    go : (lookupFrom text bytes e (suc id) es ≡ found i → Hit text bytes e (suc id) es i) → (t : Bool) → same (part bytes start (e - start)) text ≡ t → Hit text bytes start id (e ∷ es) i
+    go ih true t = hit-here t (let w : found id ≡ found i = sym (lookup-cons-stop bytes start id e es text t) ∙ q in cc)
+    go ih false t = hit-later t (ih (sym (lookup-cons-go bytes start id e es text t) ∙ q))
 
--- what a loop's invariant steps by, where `e` is the end that was read
-module _ (bytes ends : List ℕ) (start i : ℕ) where
-  module _ {e : ℕ} (h : i < length ends) (q : e ≡ getD ends i 0) where
-    here : drop i ends ≡ e ∷ drop (i + 1) ends
-    here = rw (q, add-one i) (drop-cons ends i 0 h)
+-- a lookup's answer is an id of the table, its text is equal, and no smaller id's is
+module _ (text bytes ends : List ℕ) (i : ℕ) (q : lookup text bytes ends ≡ found i) where
+  pub lookup-there : i < length ends
+  lookup-there = let h = lookup-hit text bytes 0 0 ends i q in omega (arith, h .place, h .there)
 
-    pub fault-go : wellFormed bytes start e ≡ true → faultFrom bytes start i (drop i ends) ≡ faultFrom bytes e (i + 1) (drop (i + 1) ends)
-    fault-go t = rw here (fault-cons-go bytes start i e _ t) ∙ ap (λ (k : ℕ). faultFrom bytes e k (drop (i + 1) ends)) (sym (add-one i))
+  pub lookup-equal : textOf bytes ends i ≡ text
+  lookup-equal =
+      let h = lookup-hit text bytes 0 0 ends i q in
+      let e : i ≡ h .steps = omega (arith, h .place) in
+      rw e (h .equal)
 
-    pub fault-stop : wellFormed bytes start e ≡ false → faultFrom bytes start i (drop i ends) ≡ found i
-    fault-stop t = rw here (fault-cons-stop bytes start i e _ t)
+  pub lookup-first : (j : ℕ) → j < i → textOf bytes ends j ≡ text → ⊥
+  lookup-first j l x = let h = lookup-hit text bytes 0 0 ends i q in h .first j (omega (arith, h .place)) x
 
-    module _ (text : List ℕ) {entry : List ℕ} (x : entry ≡ part bytes start (e - start)) where
-      pub lookup-go : same entry text ≡ false → lookupFrom text bytes start i (drop i ends) ≡ lookupFrom text bytes e (i + 1) (drop (i + 1) ends)
-      lookup-go t =
-          rw here (lookup-cons-go bytes start i e _ text (rw x at t)) ∙ ap (λ (k : ℕ). lookupFrom text bytes e k (drop (i + 1) ends)) (sym (add-one i))
+-- a search that answers, at an id or before it
+pub record Answers (f : Found) (id : ℕ) : Type 0 where
+  pub at : ℕ
+  pub answer : f ≡ found at
+  pub least : at ≤ id
 
-      pub lookup-stop : same entry text ≡ true → lookupFrom text bytes start i (drop i ends) ≡ found i
-      lookup-stop t = rw here (lookup-cons-stop bytes start i e _ text (rw x at t))
+lookup-own-from : (text bytes : List ℕ) (start id : ℕ) (es : List ℕ) (k : ℕ) → k < length es → textFrom bytes start es k ≡ text → Answers (lookupFrom text bytes start id es) (id + k)
+lookup-own-from text bytes start id [] k h x = absurd (omega arith)
+lookup-own-from text bytes start id (e ∷ es) k h x =
+    by-test (same (part bytes start (e - start)) text)
+    (λ t. record { at = id; answer = lookup-cons-stop bytes start id e es text t; least = omega arith })
+    (λ t. later k h x t (lookup-own-from text bytes e (suc id) es))
+  where
+    later : (k : ℕ) → k < length (e ∷ es) → textFrom bytes start (e ∷ es) k ≡ text → same (part bytes start (e - start)) text ≡ false → ((k : ℕ) → k < length es → textFrom bytes e es k ≡ text → Answers (lookupFrom text bytes e (suc id) es) (suc id + k)) → Answers (lookupFrom text bytes start id (e ∷ es)) (id + k)
+    later zero h x t ih = true-not-false (same (part bytes start (e - start)) text) (rw x (same-refl text)) t
+    later (suc k) h x t ih =
+        let a = ih k (omega arith) x in
+        record { at = a .at; answer = lookup-cons-go bytes start id e es text t ∙ a .answer; least = omega (arith, a .least) }
 
-  pub fault-end : length ends ≤ i → faultFrom bytes start i (drop i ends) ≡ missing
-  unfolding faultFrom
-  fault-end h = rw (drop-of-length-le ends h)
+-- the text of an id is found, at that id or before it
+pub lookup-own : (bytes ends : List ℕ) (id : ℕ) → id < length ends → Answers (lookup (textOf bytes ends id) bytes ends) id
+lookup-own bytes ends id h =
+    let a = lookup-own-from (textOf bytes ends id) bytes 0 0 ends id h refl in
+    record { at = a .at; answer = a .answer; least = omega (arith, a .least) }
 
-  pub lookup-end : (text : List ℕ) → length ends ≤ i → lookupFrom text bytes start i (drop i ends) ≡ missing
-  unfolding lookupFrom
-  lookup-end text h = rw (drop-of-length-le ends h)
+-- and at that id, where no smaller one has the same text
+pub lookup-own-first : (bytes ends : List ℕ) (id : ℕ) → id < length ends → ((j : ℕ) → j < id → textOf bytes ends j ≡ textOf bytes ends id → ⊥) → lookup (textOf bytes ends id) bytes ends ≡ found id
+lookup-own-first bytes ends id h none =
+    let a = lookup-own bytes ends id h in
+    by-leb id (a .at)
+    (λ l. let e : a .at ≡ id = omega (arith, a .least) in a .answer ∙ ap found e)
+    (λ l. absurd (none (a .at) l (lookup-equal (textOf bytes ends id) bytes ends (a .at) (a .answer))))
+
+-- entries behind those that were searched change no answer
+pub lookup-append : (text bytes : List ℕ) (start id : ℕ) (es fs : List ℕ) (i : ℕ) → lookupFrom text bytes start id es ≡ found i → lookupFrom text bytes start id (es ++ fs) ≡ found i
+unfolding lookupFrom
+lookup-append text bytes start id [] fs i q = absurd (let z : _≡_ {A = ℕ} 0 1 = cc in omega arith)
+lookup-append text bytes start id (e ∷ es) fs i q =
+    by-test (same (part bytes start (e - start)) text)
+    (λ t. lookup-cons-stop bytes start id e (es ++ fs) text t ∙ sym (lookup-cons-stop bytes start id e es text t) ∙ q)
+    (λ t. lookup-cons-go bytes start id e (es ++ fs) text t ∙ lookup-append text bytes e (suc id) es fs i (sym (lookup-cons-go bytes start id e es text t) ∙ q))
+
+-- an entry in order
+pub record Sound (bytes : List ℕ) (start end : ℕ) : Type 0 where
+  pub rises : start ≤ end
+  pub inside : end ≤ length bytes
+  pub utf8 : isUtf8 (part bytes start (end - start)) ≡ true
+
+pub sound : (bytes : List ℕ) (start end : ℕ) → wellFormed bytes start end ≡ true → Sound bytes start end
+unfolding wellFormed
+sound bytes start end e =
+    let r = both-right (leb start end) _ e in
+    record { rises = leb-true start end (both-left (leb start end) _ e); inside = leb-true end (length bytes) (both-left (leb end (length bytes)) _ r); utf8 = both-right (leb end (length bytes)) _ r }
+
+no-fault-from : (bytes : List ℕ) (start id : ℕ) (es : List ℕ) → faultFrom bytes start id es ≡ missing → (k : ℕ) → k < length es → wellFormed bytes (getD (start ∷ es) k 0) (getD es k 0) ≡ true
+no-fault-from bytes start id [] q k h = absurd (omega arith)
+no-fault-from bytes start id (e ∷ es) q k h = go (no-fault-from bytes e (suc id) es) (wellFormed bytes start e) refl k h
+  where
+    go : (faultFrom bytes e (suc id) es ≡ missing → (k : ℕ) → k < length es → wellFormed bytes (getD (e ∷ es) k 0) (getD es k 0) ≡ true) → (t : Bool) → wellFormed bytes start e ≡ t
+        → (k : ℕ) → k < length (e ∷ es) → wellFormed bytes (getD (start ∷ e ∷ es) k 0) (getD (e ∷ es) k 0) ≡ true
+    go ih true t zero h = t
+    go ih true t (suc k) h = ih (sym (fault-cons-go bytes start id e es t) ∙ q) k (omega arith)
+    go ih false t k h = absurd (let w : found id ≡ missing = sym (fault-cons-stop bytes start id e es t) ∙ q in let z : _≡_ {A = ℕ} 0 1 = cc w in omega arith)
+
+-- in a table without fault every entry is in order
+pub no-fault : (bytes ends : List ℕ) → fault bytes ends ≡ missing → (id : ℕ) → id < length ends → Sound bytes (startOf ends id) (endOf ends id)
+no-fault bytes ends q id h = sound bytes _ _ (no-fault-from bytes 0 0 ends q id h)

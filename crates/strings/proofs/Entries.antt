@@ -4,7 +4,7 @@ use Prim.Native.Nat.{ℕ, _-_, _<_}
 use mathlib.Core.List.{List}
 use borrow.Author.Tests.{lt-ltb}
 use lib.ListN.{length, getD}
-use Rattle.spec_strings.proofs.TableLaws.{start-next}
+use Rattle.spec_strings.proofs.TableSteps.{start-next}
 use Rattle.strings.specs.Answers.{entryOf}
 use Rattle.strings.specs.declared.table.Entry.the-variants as Entry
 

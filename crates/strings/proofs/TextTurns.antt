@@ -8,19 +8,11 @@ use lib.Dec.{eqb}
 use borrow.Author.Tests.{ne-eqb, eqb-true}
 use lib.ListN.{length, drop, getD, drop-of-length-le}
 use lib.Seq.{drop-cons}
-use Rattle.lists.specs.Choice.{pick}
 use Rattle.lists.specs.Scan.{all}
 use Rattle.lists.proofs.Tests.{by-test}
-use Rattle.spec_strings.specs.Utf8.{within, broken, step, bitsAfter, charsFrom}
-use Rattle.spec_strings.specs.Escape.{escape, unicode, escapeAll, unescape}
+use Rattle.spec_strings.specs.Utf8.{broken, step, bitsAfter, charsFrom}
+use Rattle.spec_strings.specs.Escape.{escapeAll, unescape}
 use Rattle.strings.specs.Turns.{wholeText, carriedBits, readText, slashAfter}
-
--- a character without a short escape
-pub escape-long : (c : ℕ) → (c ≡ 34 → ⊥) → (c ≡ 92 → ⊥) → (c ≡ 10 → ⊥) → (c ≡ 13 → ⊥) → (c ≡ 9 → ⊥) → (c ≡ 0 → ⊥)
-    → escape c ≡ pick (within 32 126 c) (c ∷ []) (unicode c)
-unfolding escape
-escape-long c n34 n92 n10 n13 n9 n0 =
-    rw (ne-eqb c 34 n34, ne-eqb c 92 n92, ne-eqb c 10 n10, ne-eqb c 13 n13, ne-eqb c 9 n9, ne-eqb c 0 n0)
 
 -- a byte of a text that is escaped
 chars-cons : (st acc b : ℕ) (s : List ℕ) → (step st b ≡ broken → ⊥)

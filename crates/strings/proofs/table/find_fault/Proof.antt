@@ -3,7 +3,7 @@ use native.Mathlib.Omega.{arith}
 use Prim.Native.Nat.{_-_, _≤_}
 use lib.ListN.{length, drop}
 use Rattle.spec_strings.specs.Table.{faultFrom, fault}
-use Rattle.spec_strings.proofs.TableLaws.{fault-go, fault-stop, fault-end}
+use Rattle.spec_strings.proofs.TableSteps.{fault-go, fault-stop, fault-end}
 use Rattle.strings.specs.Answers.{foundOf}
 use borrow.Author.Tests.{not-true, not-false}
 use borrow.Author.Needs.{needs}

@@ -1,6 +1,6 @@
 use native.Mathlib.Omega.{arith}
 use Rattle.spec_strings.specs.Escape.{escape}
-use Rattle.strings.proofs.TextTurns.{escape-long}
+use Rattle.spec_strings.proofs.EscapeLaws.{escape-long}
 use Rattle.strings.proofs.util.letter_of.Statement.{statement}
 use Rattle.strings.proofs.util.letter_of.Tie as tie
 

@@ -10,14 +10,14 @@ use lib.ListN.{length, getD, length-append}
 use lib.Seq.{getD-append-add}
 use Rattle.lists.specs.Choice.{pick, both}
 use Rattle.lists.specs.Scan.{all}
-use Rattle.lists.proofs.Tests.{both-left, both-right, both-yes, by-eqb, by-leb, not-true}
+use Rattle.lists.proofs.Tests.{both-left, both-right, both-yes, both-no-left, by-eqb, by-leb, not-true}
 use Rattle.lists.proofs.Scans.{all-append}
 use Rattle.spec_numbers.specs.Print.{hexUpper, hexUpper4}
 use Rattle.spec_numbers.proofs.PrintLaws.{digits-few, padded-length}
 use Rattle.spec_strings.specs.Utf8.{within}
 use Rattle.spec_strings.specs.Escape.{escaped, unicode, escape, escapeAll, escapeText, meant, unescape}
 use Rattle.spec_strings.specs.Plain.{plainByte, plain}
-use Rattle.spec_strings.proofs.Utf8Laws.{ascii, ascii-chars}
+use Rattle.spec_strings.proofs.Utf8Laws.{ascii, ascii-chars, within-low, within-high}
 
 -- a character without a short escape
 pub escape-long : (c : ℕ) → (c ≡ 34 → ⊥) → (c ≡ 92 → ⊥) → (c ≡ 10 → ⊥) → (c ≡ 13 → ⊥) → (c ≡ 9 → ⊥) → (c ≡ 0 → ⊥)
@@ -31,6 +31,24 @@ pub escape-shown : (c : ℕ) → 32 ≤ c → c ≤ 126 → (c ≡ 34 → ⊥) �
 escape-shown c l h n34 n92 =
     escape-long c n34 n92 (λ z. omega arith) (λ z. omega arith) (λ z. omega arith) (λ z. omega arith) ∙ rw (le-leb 32 c l, le-leb c 126 h)
 
+-- which bytes are plain: above 126 none, from 32 all but the quote, below 32 three
+module _ (b : ℕ) where
+  plain-rest : (b ≡ 9 → ⊥) → (b ≡ 10 → ⊥) → (b ≡ 13 → ⊥) → plainByte b ≡ both (within 32 126 b) (not (eqb b 34))
+  unfolding plainByte
+  plain-rest n9 n10 n13 = rw (ne-eqb b 9 n9, ne-eqb b 10 n10, ne-eqb b 13 n13)
+
+  pub plain-high : 126 < b → plainByte b ≡ false
+  plain-high h = plain-rest (λ z. omega arith) (λ z. omega arith) (λ z. omega arith) ∙ both-no-left (within 32 126 b) _ (within-high 32 126 b h)
+
+  pub plain-shown : 32 ≤ b → b ≤ 126 → plainByte b ≡ not (eqb b 34)
+  plain-shown l h = plain-rest (λ z. omega arith) (λ z. omega arith) (λ z. omega arith) ∙ rw (le-leb 32 b l, le-leb b 126 h)
+
+  pub plain-low : b < 32 → (b ≡ 9 → ⊥) → (b ≡ 10 → ⊥) → plainByte b ≡ eqb b 13
+  unfolding plainByte
+  plain-low h n9 n10 =
+      by-eqb b 13 (λ z. rw z)
+      (λ n13. plain-rest n9 n10 n13 ∙ both-no-left (within 32 126 b) _ (within-low 32 126 b h) ∙ sym (ne-eqb b 13 n13))
+
 -- the bytes of plain text, by how they are escaped
 data Kind : ℕ → Type 0 where
   tab : Kind 9
@@ -40,14 +58,13 @@ data Kind : ℕ → Type 0 where
   shown : (b : ℕ) → 32 ≤ b → b ≤ 126 → (b ≡ 34 → ⊥) → (b ≡ 92 → ⊥) → Kind b
 
 kind : (b : ℕ) → plainByte b ≡ true → Kind b
-unfolding plainByte
 kind b e =
     by-eqb b 9 (λ z. rw z tab)
     (λ n9. by-eqb b 10 (λ z. rw z lf)
     (λ n10. by-eqb b 13 (λ z. rw z cr)
     (λ n13. by-eqb b 92 (λ z. rw z slash)
     (λ n92.
-    let q : both (within 32 126 b) (not (eqb b 34)) ≡ true = rw (ne-eqb b 9 n9, ne-eqb b 10 n10, ne-eqb b 13 n13) at e in
+    let q : both (within 32 126 b) (not (eqb b 34)) ≡ true = sym (plain-rest b n9 n10 n13) ∙ e in
     let w : within 32 126 b ≡ true = both-left (within 32 126 b) (not (eqb b 34)) q in
     let n : eqb b 34 ≡ false = not-true (eqb b 34) (both-right (within 32 126 b) (not (eqb b 34)) q) in
     shown b (leb-true 32 b (both-left (leb 32 b) (leb b 126) w)) (leb-true b 126 (both-right (leb 32 b) (leb b 126) w)) (eqb-false b 34 n) n92))))

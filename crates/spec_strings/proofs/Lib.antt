@@ -2,4 +2,5 @@ pub mod Utf8Laws
 pub mod TableSteps
 pub mod TableLaws
 pub mod EscapeLaws
+pub mod CharLaws
 pub mod StringTrials

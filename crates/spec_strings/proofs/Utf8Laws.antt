@@ -4,14 +4,53 @@ use mathlib.Core.Bool.{Bool, true, false}
 use Prim.Native.Nat.{ℕ, _+_, _≤_, _<_}
 use native.Mathlib.Numerals.{add-one}
 use mathlib.Core.List.{List, [], _∷_, _++_}
-use lib.Dec.{eqb, ltb}
+use lib.Dec.{eqb, ltb, leb}
 use native.Mathlib.Omega.{arith}
-use borrow.Author.Tests.{ne-eqb, lt-ltb, ltb-true, eqb-true}
+use borrow.Author.Tests.{ne-eqb, lt-ltb, le-ltb, ltb-true, eqb-true, le-leb, lt-leb}
 use lib.ListN.{length, drop, getD, drop-of-length-le}
 use lib.Seq.{drop-cons}
 use Rattle.lists.specs.Scan.{all}
-use Rattle.lists.proofs.Tests.{both-left, both-right}
-use Rattle.spec_strings.specs.Utf8.{broken, afterLead, afterNext, step, utf8From, isUtf8, leadBits, bitsAfter, charsFrom, chars}
+use Rattle.lists.proofs.Tests.{both-left, both-right, both-no-right}
+use Rattle.spec_strings.specs.Utf8.{within, broken, afterLead, afterNext, step, utf8From, isUtf8, leadBits, bitsAfter, charsFrom, chars}
+
+-- a number in a range, below it and above it
+module _ (lo hi b : ℕ) where
+  pub within-yes : lo ≤ b → b ≤ hi → within lo hi b ≡ true
+  within-yes l h = rw (le-leb lo b l, le-leb b hi h)
+
+  pub within-low : b < lo → within lo hi b ≡ false
+  within-low h = rw (lt-leb lo b h)
+
+  pub within-high : hi < b → within lo hi b ≡ false
+  within-high h = both-no-right (leb lo b) (leb b hi) (lt-leb b hi h)
+
+-- behind a first byte, by the ranges that are not one byte alone
+module _ (b : ℕ) where
+  pub lead-stray : 128 ≤ b → b < 194 → afterLead b ≡ broken
+  unfolding afterLead
+  lead-stray l h =
+      let n : (k : ℕ) → 194 ≤ k → eqb b k ≡ false = λ k q. ne-eqb b k (λ z. omega arith) in
+      rw (le-ltb b 128 l, within-low 194 223 b (omega arith), n 224 (omega arith), n 237 (omega arith), within-low 225 239 b (omega arith), n 240 (omega arith), within-low 241 243 b (omega arith), n 244 (omega arith))
+
+  pub lead-two : 194 ≤ b → b < 224 → afterLead b ≡ 1
+  unfolding afterLead
+  lead-two l h = rw (le-ltb b 128 (omega arith), within-yes 194 223 b l (omega arith))
+
+  pub lead-three : 224 < b → b < 240 → (b ≡ 237 → ⊥) → afterLead b ≡ 2
+  unfolding afterLead
+  lead-three l h n =
+      rw (le-ltb b 128 (omega arith), within-high 194 223 b (omega arith), ne-eqb b 224 (λ z. omega arith), ne-eqb b 237 n, within-yes 225 239 b l (omega arith))
+
+  pub lead-four : 240 < b → b < 244 → afterLead b ≡ 3
+  unfolding afterLead
+  lead-four l h =
+      rw (le-ltb b 128 (omega arith), within-high 194 223 b (omega arith), ne-eqb b 224 (λ z. omega arith), ne-eqb b 237 (λ z. omega arith), within-high 225 239 b (omega arith), ne-eqb b 240 (λ z. omega arith), within-yes 241 243 b l (omega arith))
+
+  pub lead-past : 244 < b → afterLead b ≡ broken
+  unfolding afterLead
+  lead-past h =
+      let n : (k : ℕ) → k ≤ 244 → eqb b k ≡ false = λ k q. ne-eqb b k (λ z. omega arith) in
+      rw (le-ltb b 128 (omega arith), within-high 194 223 b (omega arith), n 224 (omega arith), n 237 (omega arith), within-high 225 239 b (omega arith), n 240 (omega arith), within-high 241 243 b (omega arith), n 244 (omega arith))
 
 -- a byte below 128
 abbrev pub ascii : ℕ → Bool

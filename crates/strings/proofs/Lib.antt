@@ -1,4 +1,3 @@
 pub mod Entries
 pub mod LeftToWrite
-pub mod CharBits
 pub mod TextTurns

@@ -21,7 +21,10 @@ fn after_lead(b: u8) -> u8
     if b < 128 {
         return 0;
     }
-    if is_within(194, 223, b) {
+    if b < 194 {
+        return 8;
+    }
+    if b < 224 {
         return 1;
     }
     if b == 224 {
@@ -30,13 +33,13 @@ fn after_lead(b: u8) -> u8
     if b == 237 {
         return 5;
     }
-    if is_within(225, 239, b) {
+    if b < 240 {
         return 2;
     }
     if b == 240 {
         return 6;
     }
-    if is_within(241, 243, b) {
+    if b < 244 {
         return 3;
     }
     if b == 244 {

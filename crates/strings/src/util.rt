@@ -102,7 +102,7 @@ fn lead_bits(b: u8) -> u32
 }
 
 fn bits_after(st: u8, acc: u32, b: u8) -> u32
-    requires { ⌜ acc < 16777216 ⌝ }
+    requires { ⌜ acc < 32768 ⌝ }
     ensures { λ r. ⌜ r ≡ bitsAfter st acc b ⌝ }
 {
     if st == 0 {
@@ -216,22 +216,19 @@ pub fn put_unescaped(out: &mut [u8], at: usize, s: &[u8]) -> usize
 fn is_plain_byte(b: u8) -> bool
     ensures { λ r. ⌜ r ≡ plainByte b ⌝ }
 {
+    if 126 < b {
+        return false;
+    }
+    if 31 < b {
+        return b != 34;
+    }
     if b == 9 {
         return true;
     }
     if b == 10 {
         return true;
     }
-    if b == 13 {
-        return true;
-    }
-    if b < 32 {
-        return false;
-    }
-    if 126 < b {
-        return false;
-    }
-    b != 34
+    b == 13
 }
 
 fn all_plain(s: &[u8]) -> bool

@@ -6,7 +6,7 @@ use Rattle.strings.proofs.LeftToWrite.{Left, left-all, left-turn, left-
 use Rattle.spec_strings.specs.Escape.{escapeAll, escapeText}
 use Rattle.spec_strings.specs.Utf8.{charsFrom}
 use Rattle.strings.proofs.TextTurns.{escape-turn, escape-broken, escape-end}
-use Rattle.strings.proofs.CharBits.{limit, limit-most, small-turn}
+use Rattle.spec_strings.proofs.CharLaws.{limit, limit-most, small-turn}
 use borrow.Author.Needs.{needs}
 use Rattle.strings.proofs.util.put_escaped_text.Statement.{statement}
 use Rattle.strings.proofs.util.put_escaped_text.Tie as tie
@@ -62,7 +62,7 @@ loop-again c =
     let q = t .before .before .before in
     let l = q .before .loop in (
       omega arith,
-      rw (c .carried .ensures, b .bits-after .ensures) (small-turn _ _ (t .before .before .shared-slice-known2 .given (l .i) .fits) _ _ (l .inv .1) (t .before .step .ensures) (t .if1 .left)),
+      rw (c .carried .ensures, b .bits-after .ensures) (small-turn _ _ _ _ (l .inv .1) (t .before .step .ensures) (t .if1 .left)),
       left-turn (l .inv .2) (escape-turn _ _ _ _ (q .loop-test .taken) (t .before .step .ensures) (t .if1 .left) (b .bits-after .ensures) (c .carried .ensures)) (w .put-whole .ensures),
     )
 

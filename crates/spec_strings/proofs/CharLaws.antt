@@ -22,6 +22,7 @@ pick-le : (t : Bool) (a b n : ℕ) → a ≤ n → b ≤ n → pick t a b ≤ n
 pick-le true a b n h k = h
 pick-le false a b n h k = k
 
+-- the largest limit
 pub limit-most : (st : ℕ) → limit st ≤ 32768
 limit-most st =
     pick-le (eqb st 1) _ _ _ (omega arith) (pick-le (either (eqb st 2) (either (eqb st 4) (eqb st 5))) _ _ _ (omega arith) (omega arith))

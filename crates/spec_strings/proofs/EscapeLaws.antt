@@ -37,12 +37,15 @@ module _ (b : ℕ) where
   unfolding plainByte
   plain-rest n9 n10 n13 = rw (ne-eqb b 9 n9, ne-eqb b 10 n10, ne-eqb b 13 n13)
 
+  -- above 126
   pub plain-high : 126 < b → plainByte b ≡ false
   plain-high h = plain-rest (λ z. omega arith) (λ z. omega arith) (λ z. omega arith) ∙ both-no-left (within 32 126 b) _ (within-high 32 126 b h)
 
+  -- 32 to 126
   pub plain-shown : 32 ≤ b → b ≤ 126 → plainByte b ≡ not (eqb b 34)
   plain-shown l h = plain-rest (λ z. omega arith) (λ z. omega arith) (λ z. omega arith) ∙ rw (le-leb 32 b l, le-leb b 126 h)
 
+  -- below 32
   pub plain-low : b < 32 → (b ≡ 9 → ⊥) → (b ≡ 10 → ⊥) → plainByte b ≡ eqb b 13
   unfolding plainByte
   plain-low h n9 n10 =
@@ -189,6 +192,7 @@ module _ (s : List ℕ) (e : plain s ≡ true) where
   pub plain-printed : all printed (escapeText s) ≡ true
   plain-printed = rw (escape-plain s bytes-plain) (printed-all s bytes-plain)
 
+  -- its escape is at most twice as long
   pub plain-length : length (escapeText s) ≤ 2 * length s
   plain-length = rw (escape-plain s bytes-plain) (length-all s bytes-plain)
 
@@ -199,7 +203,6 @@ module _ (s : List ℕ) (e : plain s ≡ true) where
       eqb-false (lastOf s) 92 (not-true _ (both-right (all plainByte s) _ e))
       (last-all s bytes-plain (rw (escape-plain s bytes-plain) at q))
 
--- an escape is at most ten bytes
 pick-short : (t : Bool) (a b : List ℕ) (n : ℕ) → length a ≤ n → length b ≤ n → length (pick t a b) ≤ n
 pick-short true a b n h k = h
 pick-short false a b n h k = k
@@ -215,6 +218,7 @@ unicode-length c h =
     (λ l. rw (le-leb c 65535 l) (omega (arith, padded-length 4 (hexUpper c) (few-digits c 3 (omega arith) (omega arith)))))
     (λ l. rw (lt-leb c 65535 l, length-append) (omega (arith, few-digits c 5 (omega arith) (omega arith))))
 
+-- an escape is at most ten bytes
 pub escape-length : (c : ℕ) → c < 2 ^ 21 → length (escape c) ≤ 10
 unfolding escape
 escape-length c h =

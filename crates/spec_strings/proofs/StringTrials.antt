@@ -125,10 +125,12 @@ pub largest-table : (bytes ends : List ℕ) → length ends ≡ 65536 → length
 unfolding tooLarge
 largest-table bytes ends e b = rw (e, b)
 
+-- one string more
 pub too-many-strings : (bytes ends : List ℕ) → length ends ≡ 65537 → tooLarge bytes ends ≡ true
 unfolding tooLarge
 too-many-strings bytes ends e = rw e
 
+-- one byte more
 pub too-many-bytes : (bytes ends : List ℕ) → length ends ≡ 0 → length bytes ≡ 1048577 → tooLarge bytes ends ≡ true
 unfolding tooLarge
 too-many-bytes bytes ends e b = rw (e, b)

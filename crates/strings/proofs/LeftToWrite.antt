@@ -15,6 +15,7 @@ pub record Left (whole out₀ : List ℕ) (at : ℕ) (rest out : List ℕ) (k : 
   pub same-size : length out ≡ length out₀
 
 module _ {whole out₀ : List ℕ} {at : ℕ} where
+  -- before the first turn
   pub left-all : length out₀ ≤ top → at ≤ top → Left whole out₀ at whole out₀ at
   left-all h k = record { finish = λ o r p. p; small = h; counted = k; same-size = refl }
 
@@ -27,5 +28,6 @@ module _ {whole out₀ : List ℕ} {at : ℕ} where
     same-size = kept-length p ∙ l .same-size;
   }
 
+  -- when nothing is left
   pub left-none : {rest out : List ℕ} {k : ℕ} → Left whole out₀ at rest out k → rest ≡ [] → Put out₀ at whole out k
   left-none l e = l .finish _ _ (same-piece (sym e) (wrote-none (rw (l .same-size) (l .small)) (l .counted)))

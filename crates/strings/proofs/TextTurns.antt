@@ -28,14 +28,17 @@ unfolding charsFrom escapeAll
 chars-broken st acc b s e = rw (charsFrom, e)
 
 module _ (s : List ℕ) (i : ℕ) where
+  -- a byte that breaks nothing
   pub escape-turn : (st acc : ℕ) {next bits carry : ℕ} → i < length s → next ≡ step st (getD s i 0) → (next ≡ broken → ⊥) → bits ≡ bitsAfter st acc (getD s i 0) → carry ≡ carriedBits next bits
       → escapeAll (charsFrom st acc (drop i s)) ≡ wholeText next bits ++ escapeAll (charsFrom next carry (drop (i + 1) s))
   escape-turn st acc h e n q k =
       rw (k, e, q, add-one i, drop-cons s i 0 h) (chars-cons st acc (getD s i 0) (drop (suc i) s) (λ z. n (e ∙ z)))
 
+  -- a byte that breaks the form ends the text
   pub escape-broken : (st acc : ℕ) → i < length s → step st (getD s i 0) ≡ broken → escapeAll (charsFrom st acc (drop i s)) ≡ []
   escape-broken st acc h e = rw (drop-cons s i 0 h) (chars-broken st acc (getD s i 0) (drop (suc i) s) e)
 
+  -- at the end
   pub escape-end : (st acc : ℕ) → length s ≤ i → escapeAll (charsFrom st acc (drop i s)) ≡ []
   unfolding charsFrom escapeAll
   escape-end st acc h = rw (drop-of-length-le s h)
@@ -47,24 +50,29 @@ read-cons true b s = refl
 read-cons false b s = by-test (eqb b 92) (λ t. rw (t, unescape)) (λ t. rw (t, unescape))
 
 module _ (s : List ℕ) (i : ℕ) where
+  -- one byte further
   pub read-turn : (slash : Bool) {next : Bool} → i < length s → next ≡ slashAfter slash (getD s i 0)
       → unescape slash (drop i s) ≡ readText slash (getD s i 0) ++ unescape next (drop (i + 1) s)
   read-turn slash h e = rw (e, add-one i, drop-cons s i 0 h) (read-cons slash (getD s i 0) (drop (suc i) s))
 
+  -- at the end
   pub read-end : (slash : Bool) → length s ≤ i → unescape slash (drop i s) ≡ []
   unfolding unescape
   read-end slash h = rw (drop-of-length-le s h)
 
 -- every element passes, from an index on
 module _ (p : ℕ → Bool) (s : List ℕ) (i : ℕ) where
+  -- an element passes
   pub all-go : i < length s → p (getD s i 0) ≡ true → all p (drop i s) ≡ all p (drop (i + 1) s)
   unfolding all
   all-go h e = rw (add-one i, drop-cons s i 0 h, e)
 
+  -- an element does not
   pub all-stop : i < length s → p (getD s i 0) ≡ false → all p (drop i s) ≡ false
   unfolding all
   all-stop h e = rw (drop-cons s i 0 h, e)
 
+  -- at the end
   pub all-end : length s ≤ i → all p (drop i s) ≡ true
   unfolding all
   all-end h = rw (drop-of-length-le s h)

@@ -10,14 +10,16 @@ use Rattle.spec_strings.specs.Escape.{escape, meant}
 abbrev pub wholeText : ℕ → ℕ → List ℕ
 wholeText st c = pick (eqb st 0) (escape c) []
 
+-- the bits that are carried on: none behind a whole character
 abbrev pub carriedBits : ℕ → ℕ → ℕ
 carriedBits st bits = pick (eqb st 0) 0 bits
 
--- what a byte adds to a text that is read back, and whether the next one stands behind a backslash
+-- what a byte adds to a text that is read back
 abbrev pub readText : Bool → ℕ → List ℕ
 readText true b = meant b ∷ []
 readText false b = pick (eqb b 92) [] (b ∷ [])
 
+-- whether the next byte stands behind a backslash
 abbrev pub slashAfter : Bool → ℕ → Bool
 slashAfter true b = false
 slashAfter false b = eqb b 92

@@ -1,3 +1,4 @@
 pub mod AnswerLaws
 pub mod TypesLoop
 pub mod LineLaws
+pub mod StoreLaws

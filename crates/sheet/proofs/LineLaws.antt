@@ -7,10 +7,10 @@ use native.Mathlib.Omega.{arith}
 use Rattle.lists.proofs.Tests.{true-not-false}
 use Rattle.spec_sheet.specs.Scan.{literalAt, lineEnd, after}
 use Rattle.spec_sheet.specs.Scan.Step.{next, off}
-use Rattle.spec_sheet.specs.Line.{TypesRead, HeadRead, LineRead, lineTypes, typeRow, infoRow}
+use Rattle.spec_sheet.specs.Line.{Op, TypesRead, HeadRead, LineRead, lineTypes, typeRow, infoRow}
 use Rattle.spec_sheet.specs.Line.TypesRead.{types, noTypes}
 use Rattle.spec_sheet.specs.Line.HeadRead.{head, noHead}
-use Rattle.spec_sheet.specs.Line.LineRead.{noLine}
+use Rattle.spec_sheet.specs.Line.LineRead.{line, noLine}
 use Rattle.sheet.specs.Lines.{typesOf, headOf, lineOf}
 use Rattle.sheet.specs.declared.line.Types.{Types}
 use Rattle.sheet.specs.declared.line.Line.{Line}
@@ -56,3 +56,27 @@ module _ (s : List ℕ) (code start size jump : ℕ) where
       let r : literalAt lineEnd s at ≡ next v b = rw q at l in
       rw (r, e)
   line-whole noTypes t e f l = true-not-false (t .ok) f (ap (λ (r : Types). r .ok) e)
+
+-- from the answer of a line back to the opcode that was read
+pub record LineIs (x : LineRead) (l : Line) : Type 0 where
+  pub op : Op
+  pub is-line : x ≡ line op (l .next)
+  pub code : l .code ≡ op .code
+  pub row : l .row ≡ typeRow op
+  pub info : l .info ≡ infoRow op
+
+pub was-line : (x : LineRead) (l : Line) → l ≡ lineOf x → l .ok ≡ true → LineIs x l
+unfolding lineOf
+was-line (line o at) l e f = record {
+  op = o;
+  is-line = ap (line o) (sym (ap (λ (r : Line). r .next) e));
+  code = ap (λ (r : Line). r .code) e;
+  row = ap (λ (r : Line). r .row) e;
+  info = ap (λ (r : Line). r .info) e;
+}
+was-line noLine l e f = true-not-false (l .ok) f (ap (λ (r : Line). r .ok) e)
+
+pub was-no-line : (x : LineRead) (l : Line) → l ≡ lineOf x → l .ok ≡ false → x ≡ noLine
+unfolding lineOf
+was-no-line (line o at) l e f = true-not-false (l .ok) (ap (λ (r : Line). r .ok) e) f
+was-no-line noLine l e f = refl

@@ -1,11 +1,34 @@
 -- The answers of the functions that read a whole sheet. Assumes nothing.
 use Prim.Native.Nat.{ℕ, zero}
-use Rattle.lists.specs.Found as spec
+use mathlib.Core.List.{List}
+use lib.ListN.{length, set}
+use Rattle.lists.specs.Found as search
 use Rattle.lists.specs.Found.Found.{found, missing}
+use Rattle.spec_sheet.specs.Line.{Op, LineRead, typeRow, infoRow}
+use Rattle.spec_sheet.specs.Line.LineRead.{line, noLine}
+use Rattle.spec_sheet.specs.Sheet as spec
+use Rattle.spec_sheet.specs.Sheet.{typeRows, infoRows, noTypeRows, noInfoRows, above}
+use Rattle.spec_sheet.specs.Sheet.OpsRead.{allRead, faultAfter}
+use Rattle.spec_sheet.specs.Sheet.SheetRead.{sheet, malformed}
+use Rattle.sheet.specs.declared.scan.Step.{Step}
+use Rattle.sheet.specs.declared.scan.Step.the-variants.{Next, Off}
 use Rattle.sheet.specs.declared.opcode.Found.{Found}
 use Rattle.sheet.specs.declared.opcode.Found.the-variants.{At, Missing}
 
 -- what a search for a name answers
-unfoldable pub foundOf : spec.Found → Found
+unfoldable pub foundOf : search.Found → Found
 foundOf (found k) = At k
 foundOf missing = Missing
+
+-- an opcode line that was stored: the opcode and the place behind it, and the two tables
+unfoldable pub turnOf : LineRead → Step
+turnOf (line o at) = Next (o .code) at
+turnOf noLine = Off
+
+unfoldable pub typesStored : LineRead → List (List ℕ) → List (List ℕ)
+typesStored (line o at) rows = set rows (o .code) (typeRow o)
+typesStored noLine rows = rows
+
+unfoldable pub infosStored : LineRead → List (List ℕ) → List (List ℕ)
+infosStored (line o at) rows = set rows (o .code) (infoRow o)
+infosStored noLine rows = rows

@@ -6,8 +6,12 @@ ghost use Prim.Native.Nat.{_≤_};
 ghost use lib.ListN.{take};
 ghost use mathlib.Core.Bool.{Bool};
 ghost use mathlib.Core.List.{List};
-ghost use Rattle.spec_sheet.specs.Sheet.{hasName, findName};
-ghost use Rattle.sheet.specs.Sheets.{foundOf};
+ghost use Rattle.lists.specs.Scan.{part};
+ghost use Rattle.spec_sheet.specs.Line.{Op, lineAt};
+ghost use Rattle.spec_sheet.specs.Sheet.{hasName, findName, mayFollow, accepted, opsFrom, noTypeRows, noInfoRows, typeRows, infoRows, sheetAt, sheetOf};
+ghost use Rattle.spec_sheet.specs.Sheet.OpsRead.{allRead};
+ghost use Rattle.sheet.specs.Sheets.{foundOf, turnOf, typesStored, infosStored};
+use crate::scan::Step;
 
 // The opcode that has a name, or that none has.
 pub enum Found {
@@ -42,4 +46,55 @@ pub fn find_name(s: &[u8], name: &[u8], ops: &[[usize; 4]; 256], bound: usize) -
         k += 1;
     }
     Found::Missing
+}
+
+// Whether an opcode may follow those below `least`.
+fn may_follow(
+    s: &[u8],
+    ops: &[[usize; 4]; 256],
+    least: usize,
+    code: usize,
+    start: usize,
+    size: usize,
+) -> bool
+    requires { ⌜ least ≤ 256 ⌝ }
+    ensures { λ r. ⌜ r ≡ mayFollow (now (s .entry)) least (now (ops .entry)) code (part (now (s .entry)) start size) ⌝ }
+{
+    if code < least {
+        return false;
+    }
+    let name = slices::part::part_of(s, start, size);
+    let f = find_name(s, name, ops, least);
+    match f {
+        Found::At(_) => false,
+        Found::Missing => true,
+    }
+}
+
+// Reads one opcode line and stores its rows, where it may follow those below `least`: the opcode and the place behind it.
+fn store_line(
+    s: &[u8],
+    at: usize,
+    least: usize,
+    types: &mut [[u8; 8]; 256],
+    ops: &mut [[usize; 4]; 256],
+) -> Step
+    requires { ⌜ least ≤ 256 ⌝ }
+    ensures { λ r. ⌜ r ≡ turnOf (accepted (now (s .entry)) least (now (ops .entry)) (lineAt (now (s .entry)) at)) ⌝ }
+    ensures { λ _. ⌜ now (types .exit) ≡ typesStored (accepted (now (s .entry)) least (now (ops .entry)) (lineAt (now (s .entry)) at)) (now (types .entry)) ⌝ }
+    ensures { λ _. ⌜ now (ops .exit) ≡ infosStored (accepted (now (s .entry)) least (now (ops .entry)) (lineAt (now (s .entry)) at)) (now (ops .entry)) ⌝ }
+{
+    let l = crate::line::line_at(s, at);
+    if l.ok {
+        let code = l.code;
+        let info = l.info;
+        let row = l.row;
+        if may_follow(s, ops, least, code, info[2], info[3]) {
+            types[code] = row;
+            ops[code] = info;
+            return Step::Next(code as u64, l.next);
+        }
+        return Step::Off;
+    }
+    Step::Off
 }

@@ -1,4 +1,5 @@
 pub mod TypeLaws
 pub mod ScanLaws
 pub mod NameLaws
+pub mod OpLaws
 pub mod SheetTrials

@@ -5,11 +5,12 @@ use mathlib.Core.List.{List, [], _∷_}
 use Prim.Native.Nat.{ℕ, suc, _+_, _≤_, _<_}
 use native.Mathlib.Numerals.{add-one}
 use native.Mathlib.Omega.{arith}
-use lib.ListN.{length, drop, getD, drop-of-length-le, List·getD-eq-default}
+use lib.ListN.{length, take, drop, getD, drop-of-length-le, List·getD-eq-default}
 use Rattle.lists.proofs.Tests.{by-leb, true-not-false}
 use lib.Seq.{drop-cons}
 use Rattle.lists.specs.Found.Found.{found, missing}
-use Rattle.spec_sheet.specs.Sheet.{hasName, findName}
+use borrow.Author.Tests.{le-leb, lt-leb}
+use Rattle.spec_sheet.specs.Sheet.{hasName, findName, isMissing, mayFollow}
 
 module _ (s name : List ℕ) where
   pub find-cons-here : (k : ℕ) (row : List ℕ) (rows : List (List ℕ)) → hasName s name row ≡ true → findName s name k (row ∷ rows) ≡ found k
@@ -40,3 +41,17 @@ module _ (s name : List ℕ) where
         by-leb (length rows) k
         (λ h. let g : length rows ≤ k + 1 = omega arith in rw (drop-of-length-le rows h, drop-of-length-le rows g))
         (λ h. rw (add-one, drop-cons rows k [] h) (find-cons-next k _ (drop (suc k) rows) e))
+
+-- a number below the least, a name that is taken, and one that is not
+module _ (s : List ℕ) (least : ℕ) (rows : List (List ℕ)) (code : ℕ) (name : List ℕ) where
+  pub follow-low : code < least → mayFollow s least rows code name ≡ false
+  unfolding mayFollow
+  follow-low h = rw (lt-leb least code h, mayFollow)
+
+  pub follow-taken : (k : ℕ) → least ≤ code → findName s name 0 (take least rows) ≡ found k → mayFollow s least rows code name ≡ false
+  unfolding mayFollow isMissing
+  follow-taken k h e = rw (le-leb least code h, e)
+
+  pub follow-new : least ≤ code → findName s name 0 (take least rows) ≡ missing → mayFollow s least rows code name ≡ true
+  unfolding mayFollow isMissing
+  follow-new h e = rw (le-leb least code h, e)

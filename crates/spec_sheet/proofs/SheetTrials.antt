@@ -14,16 +14,16 @@ use Rattle.spec_numbers.specs.Parse.{digitValue, digitsValue, unsignedValue}
 use Rattle.spec_sheet.specs.Types.{typeNames, typeCodeIn, typeCode}
 use Rattle.spec_sheet.specs.Scan.{after, literalAt, isNameByte, numberRead, numberAt, keyedAt, mayBeName, nameAt, typeAt}
 use Rattle.spec_sheet.specs.Line.{Op, withType, typesFrom, typesAt, headAt, lineTypes, lineHead, lineAt, typeRow, infoRow}
-use Rattle.spec_sheet.specs.Sheet.{fill, infoRows, typeRows, hasName, findName, isMissing, follows, opsAfter, opsFrom, sheetOps, sheetAt, endsAt, sheetOf, SheetRead, largest}
+use Rattle.spec_sheet.specs.Sheet.{fill, infoRows, typeRows, hasName, findName, isMissing, mayFollow, accepted, onLine, opsFrom, sheetOps, sheetAt, endsAt, sheetOf, SheetRead, above, largest}
 use Rattle.spec_sheet.specs.Sheet.SheetRead.{sheet, malformed}
 
 -- what a sheet's reading comes to: 0 and its version, largest opcode and count, or the malformed line
 unfoldable pub outcome : SheetRead → List ℕ
-outcome (sheet sh at) = 0 ∷ sh .version ∷ largest 0 (sh .opcodes) ∷ length (sh .opcodes) ∷ []
+outcome (sheet sh at) = 0 ∷ sh .version ∷ largest (sh .opcodes) ∷ length (sh .opcodes) ∷ []
 outcome (malformed k) = k ∷ []
 
 unfoldable pub outcomeOf : List ℕ → List ℕ
-unfolding outcome sheetOf endsAt sheetAt sheetOps opsFrom opsAfter follows isMissing findName hasName fill typeRow infoRow lineAt lineHead lineTypes headAt typesAt typesFrom withType typeAt nameAt mayBeName keyedAt numberAt numberRead isNameByte literalAt after typeCode typeCodeIn typeNames unsignedValue digitsValue digitValue run same opens text largest
+unfolding outcome sheetOf endsAt sheetAt sheetOps opsFrom onLine accepted mayFollow isMissing findName hasName fill typeRow infoRow lineAt lineHead lineTypes headAt typesAt typesFrom withType typeAt nameAt mayBeName keyedAt numberAt numberRead isNameByte literalAt after typeCode typeCodeIn typeNames unsignedValue digitsValue digitValue run same opens text above
 outcomeOf s = outcome (sheetOf s)
 
 -- a text and what its reading comes to

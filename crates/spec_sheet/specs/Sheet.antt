@@ -49,24 +49,30 @@ unfoldable pub isMissing : Found → Bool
 isMissing (found k) = false
 isMissing missing = true
 
--- an opcode may follow those seen: "opcodes 0 to 255, rising", so not below `least`, and "Names differ"
-unfoldable pub follows : List ℕ → ℕ → List Op → Op → Bool
-follows s least seen o = both (leb least (o .code)) (isMissing (findName s (nameOf s o) 0 (take least (infoRows seen))))
+-- a number and name may follow those in the rows: "opcodes 0 to 255, rising", so none below `least`, and "Names differ"
+unfoldable pub mayFollow : List ℕ → ℕ → List (List ℕ) → ℕ → List ℕ → Bool
+mayFollow s least rows code name = both (leb least code) (isMissing (findName s name 0 (take least rows)))
+
+-- a line that was read, where its opcode may follow those in the rows
+unfoldable pub accepted : List ℕ → ℕ → List (List ℕ) → LineRead → LineRead
+accepted s least rows (line o at) = pick (mayFollow s least rows (o .code) (nameOf s o)) (line o at) noLine
+accepted s least rows noLine = noLine
+
+-- what follows a line, and what is answered where there is none
+unfoldable pub onLine : {A : Type 0} → LineRead → A → (Op → ℕ → A) → A
+onLine (line o at) failed then = then o at
+onLine noLine failed then = failed
 
 -- the opcode lines that were read and the place behind them, or how many were before the first malformed one
 pub data OpsRead : Type 0 where
   allRead : List Op → ℕ → OpsRead
   faultAfter : ℕ → OpsRead
 
--- an opcode line that was read, and n more to come
-unfoldable pub opsAfter : List ℕ → ℕ → List Op → LineRead → (Op → ℕ → OpsRead) → OpsRead
-opsAfter s least seen (line o at) more = pick (follows s least seen o) (more o at) (faultAfter (length seen))
-opsAfter s least seen noLine more = faultAfter (length seen)
-
+-- n opcode lines behind those seen, with no opcode below `least`
 unfoldable pub opsFrom : ℕ → List ℕ → ℕ → ℕ → List Op → OpsRead
 opsFrom zero s at least seen = allRead seen at
 opsFrom (suc n) s at least seen =
-    opsAfter s least seen (lineAt s at) λ o b.
+    onLine (accepted s least (infoRows seen) (lineAt s at)) (faultAfter (length seen)) λ o b.
     opsFrom n s b (suc (o .code)) (seen ++ (o ∷ []))
 
 -- a sheet: its version and opcodes
@@ -74,10 +80,14 @@ pub record Sheet : Type 0 where
   pub version : ℕ
   pub opcodes : List Op
 
--- "gaps below the largest opcode": the opcodes rise, so that is the last one's
-unfoldable pub largest : ℕ → List Op → ℕ
-largest n [] = n
-largest n (o ∷ ops) = largest (o .code) ops
+-- one more than the largest opcode: the opcodes rise, so that is the last one's
+unfoldable pub above : ℕ → List Op → ℕ
+above n [] = n
+above n (o ∷ os) = above (suc (o .code)) os
+
+-- the largest opcode
+abbrev pub largest : List Op → ℕ
+largest os = above 0 os - 1
 
 -- a sheet and the place behind it, or the line that is malformed, from 1
 pub data SheetRead : Type 0 where

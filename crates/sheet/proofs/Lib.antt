@@ -2,3 +2,4 @@ pub mod AnswerLaws
 pub mod TypesLoop
 pub mod LineLaws
 pub mod StoreLaws
+pub mod OpsLoop

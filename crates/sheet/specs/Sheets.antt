@@ -12,6 +12,10 @@ use Rattle.spec_sheet.specs.Sheet.OpsRead.{allRead, faultAfter}
 use Rattle.spec_sheet.specs.Sheet.SheetRead.{sheet, malformed}
 use Rattle.sheet.specs.declared.scan.Step.{Step}
 use Rattle.sheet.specs.declared.scan.Step.the-variants.{Next, Off}
+use Rattle.sheet.specs.declared.opcode.Ops.{Ops}
+use Rattle.sheet.specs.declared.opcode.Ops.the-variants.{All, FaultAfter}
+use Rattle.sheet.specs.declared.opcode.Sheet.{Sheet}
+use Rattle.sheet.specs.declared.opcode.Sheet.the-variants.{Read, Malformed}
 use Rattle.sheet.specs.declared.opcode.Found.{Found}
 use Rattle.sheet.specs.declared.opcode.Found.the-variants.{At, Missing}
 
@@ -32,3 +36,21 @@ typesStored noLine rows = rows
 unfoldable pub infosStored : LineRead → List (List ℕ) → List (List ℕ)
 infosStored (line o at) rows = set rows (o .code) (infoRow o)
 infosStored noLine rows = rows
+
+-- the opcode lines that were read
+unfoldable pub opsOf : spec.OpsRead → Ops
+opsOf (allRead os at) = All (above 0 os) at
+opsOf (faultAfter n) = FaultAfter n
+
+-- what reading a sheet answers, and the two tables afterwards; a malformed sheet leaves them zero
+unfoldable pub sheetAnswer : spec.SheetRead → Sheet
+sheetAnswer (sheet sh at) = Read (sh .version) (length (sh .opcodes)) (above 0 (sh .opcodes)) at
+sheetAnswer (malformed k) = Malformed k
+
+unfoldable pub typesIn : spec.SheetRead → List (List ℕ)
+typesIn (sheet sh at) = typeRows (sh .opcodes)
+typesIn (malformed k) = noTypeRows
+
+unfoldable pub infosIn : spec.SheetRead → List (List ℕ)
+infosIn (sheet sh at) = infoRows (sh .opcodes)
+infosIn (malformed k) = noInfoRows

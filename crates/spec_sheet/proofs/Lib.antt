@@ -2,4 +2,5 @@ pub mod TypeLaws
 pub mod ScanLaws
 pub mod NameLaws
 pub mod OpLaws
+pub mod FillLaws
 pub mod SheetTrials

@@ -3,3 +3,4 @@ pub mod TypesLoop
 pub mod LineLaws
 pub mod StoreLaws
 pub mod OpsLoop
+pub mod SheetAnswers

@@ -1,0 +1,67 @@
+-- What reading a sheet answers, case by case. Assumes nothing.
+use mathlib.Core.Path.{_≡_, refl, ap, sym, _∙_}
+use mathlib.Core.List.{List, []}
+use Prim.Native.Nat.{ℕ, _+_, _<_}
+use native.Mathlib.Nat.{zero-add}
+use native.Mathlib.Omega.{arith}
+use lib.ListN.{length}
+use Rattle.spec_sheet.specs.Line.{Op}
+use Rattle.spec_sheet.specs.Sheet.{OpsRead, opsFrom, above, typeRows, infoRows, noTypeRows, noInfoRows, SheetRead, sheetOps}
+use Rattle.spec_sheet.specs.Sheet.OpsRead.{allRead, faultAfter}
+use Rattle.spec_sheet.specs.Sheet.SheetRead.{sheet, malformed}
+use Rattle.spec_sheet.proofs.SheetLaws.{ops-count, ops-fault}
+use Rattle.sheet.specs.Sheets.{opsOf, sheetAnswer, typesIn, infosIn}
+use Rattle.sheet.specs.declared.opcode.Ops.the-variants.{All, FaultAfter}
+use Rattle.sheet.specs.declared.opcode.Sheet.{Sheet}
+use Rattle.sheet.specs.declared.opcode.Sheet.the-variants.{Read, Malformed}
+
+-- a reading's answer and both tables
+pub record Answers (x : SheetRead) (r : Sheet) (types infos : List (List ℕ)) : Type 0 where
+  pub answer : r ≡ sheetAnswer x
+  pub type-rows : types ≡ typesIn x
+  pub info-rows : infos ≡ infosIn x
+
+pub refused : (x : SheetRead) (k : ℕ) (types infos : List (List ℕ)) → x ≡ malformed k → types ≡ noTypeRows → infos ≡ noInfoRows → Answers x (Malformed k) types infos
+unfolding sheetAnswer typesIn infosIn
+refused x k types infos e t i = rw e record { answer = refl; type-rows = t; info-rows = i }
+
+-- the opcode lines were read, or one was malformed
+record All-read (x : OpsRead) (n b : ℕ) : Type 0 where
+  ops : List Op
+  is-all : x ≡ allRead ops b
+  last : above 0 ops ≡ n
+
+was-all : (x : OpsRead) (n b : ℕ) → opsOf x ≡ All n b → All-read x n b
+unfolding opsOf
+was-all (allRead os a) n b e =
+    let p : above 0 os ≡ n = cc e in
+    let q : a ≡ b = cc e in
+    record { ops = os; is-all = ap (allRead os) q; last = p }
+was-all (faultAfter k) n b e = absurd (let z : _≡_ {A = ℕ} 0 1 = cc e in omega arith)
+
+pub was-fault : (x : OpsRead) (k : ℕ) → opsOf x ≡ FaultAfter k → x ≡ faultAfter k
+unfolding opsOf
+was-fault (allRead os a) k e = absurd (let z : _≡_ {A = ℕ} 0 1 = cc e in omega arith)
+was-fault (faultAfter j) k e = let p : j ≡ k = cc e in ap faultAfter p
+
+-- a fault is in one of the lines
+pub fault-inside : (n : ℕ) (s : List ℕ) (b k : ℕ) → opsOf (opsFrom n s b 0 []) ≡ FaultAfter k → k < n
+fault-inside n s b k e = omega (arith, ops-fault n s b 0 [] k (was-fault _ k e))
+
+pub fault-line : (v k : ℕ) (x : OpsRead) → opsOf x ≡ FaultAfter k → sheetOps v x ≡ malformed (3 + k)
+unfolding sheetOps
+fault-line v k x e = rw (was-fault x k e)
+
+as-read : (v n m c : ℕ) (types infos : List (List ℕ)) (x : OpsRead) (os : List Op) → x ≡ allRead os c → n ≡ length os → m ≡ above 0 os → types ≡ typeRows os → infos ≡ infoRows os
+    → Answers (sheetOps v x) (Read v n m c) types infos
+unfolding sheetOps sheetAnswer typesIn infosIn
+as-read v n m c types infos x os p q r t i = rw p record { answer = rw (q, r); type-rows = t; info-rows = i }
+
+pub whole : (v n : ℕ) (s : List ℕ) (b m c : ℕ) (types infos : List (List ℕ)) → opsOf (opsFrom n s b 0 []) ≡ All m c
+    → ((os : List Op) (d : ℕ) → opsFrom n s b 0 [] ≡ allRead os d → (types ≡ typeRows os) × (infos ≡ infoRows os))
+    → Answers (sheetOps v (opsFrom n s b 0 [])) (Read v n m c) types infos
+whole v n s b m c types infos e f =
+    let w = was-all _ m c e in
+    let t = f (w .ops) c (w .is-all) in
+    let l : n ≡ length (w .ops) = sym (ops-count n s b 0 [] (w .ops) c (w .is-all) ∙ zero-add n) in
+    as-read v n m c types infos (opsFrom n s b 0 []) (w .ops) (w .is-all) l (sym (w .last)) (t .0) (t .1)

@@ -1,0 +1,75 @@
+-- Laws of a whole sheet, case by case. Assumes nothing.
+use mathlib.Core.Path.{_≡_, refl, ap, sym, _∙_}
+use mathlib.Core.Bool.{Bool, true, false}
+use mathlib.Core.List.{List, [], _∷_, _++_}
+use Prim.Native.Nat.{ℕ, zero, suc, _+_, _-_, _^_, _≤_, _<_}
+use native.Mathlib.Omega.{arith}
+use lib.ListN.{length, length-append}
+use borrow.Author.Tests.{eq-eqb, ne-eqb}
+use Rattle.lists.specs.Text.{text}
+use Rattle.spec_sheet.specs.Scan.{Step, after, keyedAt, lineEnd}
+use Rattle.spec_sheet.specs.Scan.Step.{next, off}
+use Rattle.spec_sheet.specs.Line.{Op, LineRead, lineAt}
+use Rattle.spec_sheet.specs.Line.LineRead.{line, noLine}
+use Rattle.spec_sheet.specs.Sheet.{accepted, onLine, OpsRead, opsFrom, infoRows, SheetRead, sheetOps, sheetAt}
+use Rattle.spec_sheet.specs.Sheet.OpsRead.{allRead, faultAfter}
+use Rattle.spec_sheet.specs.Sheet.SheetRead.{sheet, malformed}
+
+-- what reaches a line's continuation, or does not
+pub data OnLine (A : Type 0) (x : LineRead) (failed : A) (then : Op → ℕ → A) (r : A) : Type 0 where
+  passed : (o : Op) (b : ℕ) → x ≡ line o b → then o b ≡ r → OnLine A x failed then r
+  stopped : x ≡ noLine → failed ≡ r → OnLine A x failed then r
+
+pub on-line : {A : Type 0} (x : LineRead) (failed : A) (then : Op → ℕ → A) (r : A) → onLine x failed then ≡ r → OnLine A x failed then r
+unfolding onLine
+on-line (line o b) failed then r e = passed o b refl e
+on-line noLine failed then r e = stopped refl e
+
+-- as many opcodes as lines, and a fault is in one of them
+pub ops-count : (n : ℕ) (s : List ℕ) (at least : ℕ) (seen os : List Op) (b : ℕ) → opsFrom n s at least seen ≡ allRead os b → length os ≡ length seen + n
+unfolding opsFrom
+ops-count zero s at least seen os b e = let q : seen ≡ os = cc e in omega (arith, ap length q)
+ops-count (suc n) s at least seen os b e =
+    go (ops-count n s) (on-line (accepted s least (infoRows seen) (lineAt s at)) (faultAfter (length seen)) _ (allRead os b) e)
+  where
+    go : ((at least : ℕ) (seen os : List Op) (b : ℕ) → opsFrom n s at least seen ≡ allRead os b → length os ≡ length seen + n)
+        → OnLine OpsRead (accepted s least (infoRows seen) (lineAt s at)) (faultAfter (length seen)) (λ o b. opsFrom n s b (suc (o .code)) (seen ++ (o ∷ []))) (allRead os b)
+        → length os ≡ length seen + suc n
+    go ih (passed o c p q) = omega (arith, ih c (suc (o .code)) (seen ++ (o ∷ [])) os b q, length-append seen (o ∷ []))
+    go ih (stopped p q) = absurd (let z : _≡_ {A = ℕ} 0 1 = cc q in omega arith)
+
+pub ops-fault : (n : ℕ) (s : List ℕ) (at least : ℕ) (seen : List Op) (k : ℕ) → opsFrom n s at least seen ≡ faultAfter k → k < length seen + n
+unfolding opsFrom
+ops-fault zero s at least seen k e = absurd (let z : _≡_ {A = ℕ} 0 1 = cc e in omega arith)
+ops-fault (suc n) s at least seen k e =
+    go (ops-fault n s) (on-line (accepted s least (infoRows seen) (lineAt s at)) (faultAfter (length seen)) _ (faultAfter k) e)
+  where
+    go : ((at least : ℕ) (seen : List Op) (k : ℕ) → opsFrom n s at least seen ≡ faultAfter k → k < length seen + n)
+        → OnLine OpsRead (accepted s least (infoRows seen) (lineAt s at)) (faultAfter (length seen)) (λ o b. opsFrom n s b (suc (o .code)) (seen ++ (o ∷ []))) (faultAfter k)
+        → k < length seen + suc n
+    go ih (passed o c p q) = omega (arith, ih c (suc (o .code)) (seen ++ (o ∷ [])) k q, length-append seen (o ∷ []))
+    go ih (stopped p q) = let w : length seen ≡ k = cc q in omega arith
+
+-- the cases of a sheet
+module _ (s : List ℕ) (at : ℕ) where
+  abbrev pub versionAt : Step
+  versionAt = keyedAt (text "version=") (2 ^ 32 - 1) lineEnd s at
+
+  abbrev pub countAt : ℕ → Step
+  countAt a = keyedAt (text "count=") 256 lineEnd s a
+
+  pub no-version : versionAt ≡ off → sheetAt s at ≡ malformed 1
+  unfolding sheetAt after
+  no-version e = rw e
+
+  pub no-count : (v a : ℕ) → versionAt ≡ next v a → countAt a ≡ off → sheetAt s at ≡ malformed 2
+  unfolding sheetAt after
+  no-count v a e f = rw (e, f)
+
+  pub count-zero : (v a n b : ℕ) → versionAt ≡ next v a → countAt a ≡ next n b → n ≡ 0 → sheetAt s at ≡ malformed 2
+  unfolding sheetAt after
+  count-zero v a n b e f z = rw (e, f, eq-eqb n 0 z)
+
+  pub with-ops : (v a n b : ℕ) → versionAt ≡ next v a → countAt a ≡ next n b → (n ≡ 0 → ⊥) → sheetAt s at ≡ sheetOps v (opsFrom n s b 0 [])
+  unfolding sheetAt after
+  with-ops v a n b e f z = rw (e, f, ne-eqb n 0 z)

@@ -1,15 +1,17 @@
 -- What reading a sheet answers, case by case. Assumes nothing.
 use mathlib.Core.Path.{_≡_, refl, ap, sym, _∙_}
 use mathlib.Core.List.{List, []}
-use Prim.Native.Nat.{ℕ, _+_, _<_}
+use Prim.Native.Nat.{ℕ, _+_, _≤_, _<_}
 use native.Mathlib.Nat.{zero-add}
 use native.Mathlib.Omega.{arith}
 use lib.ListN.{length}
 use Rattle.spec_sheet.specs.Line.{Op}
-use Rattle.spec_sheet.specs.Sheet.{OpsRead, opsFrom, above, typeRows, infoRows, noTypeRows, noInfoRows, SheetRead, sheetOps}
+use borrow.Author.Tests.{eq-eqb, ne-eqb}
+use Rattle.spec_sheet.specs.Sheet as spec
+use Rattle.spec_sheet.specs.Sheet.{endsAt, sheetAt, OpsRead, opsFrom, above, typeRows, infoRows, noTypeRows, noInfoRows, SheetRead, sheetOps}
 use Rattle.spec_sheet.specs.Sheet.OpsRead.{allRead, faultAfter}
 use Rattle.spec_sheet.specs.Sheet.SheetRead.{sheet, malformed}
-use Rattle.spec_sheet.proofs.SheetLaws.{ops-count, ops-fault}
+use Rattle.spec_sheet.proofs.SheetLaws.{ops-count, ops-fault, sheet-lines}
 use Rattle.sheet.specs.Sheets.{opsOf, sheetAnswer, typesIn, infosIn}
 use Rattle.sheet.specs.declared.opcode.Ops.the-variants.{All, FaultAfter}
 use Rattle.sheet.specs.declared.opcode.Sheet.{Sheet}
@@ -65,3 +67,38 @@ whole v n s b m c types infos e f =
     let t = f (w .ops) c (w .is-all) in
     let l : n ≡ length (w .ops) = sym (ops-count n s b 0 [] (w .ops) c (w .is-all) ∙ zero-add n) in
     as-read v n m c types infos (opsFrom n s b 0 []) (w .ops) (w .is-all) l (sym (w .last)) (t .0) (t .1)
+
+-- a text that goes on behind its sheet, one that ends there, and one that is malformed before
+record Sheet-read (x : SheetRead) (n at : ℕ) : Type 0 where
+  of : spec.Sheet
+  is-sheet : x ≡ sheet of at
+  lines : length (of .opcodes) ≡ n
+
+was-read : (x : SheetRead) (v n m at : ℕ) → sheetAnswer x ≡ Read v n m at → Sheet-read x n at
+unfolding sheetAnswer
+was-read (sheet sh b) v n m at e =
+    let p : length (sh .opcodes) ≡ n = cc e in
+    let q : b ≡ at = cc e in
+    record { of = sh; is-sheet = ap (sheet sh) q; lines = p }
+was-read (malformed k) v n m at e = absurd (let z : _≡_ {A = ℕ} 0 1 = cc e in omega arith)
+
+was-malformed : (x : SheetRead) (k : ℕ) → sheetAnswer x ≡ Malformed k → x ≡ malformed k
+unfolding sheetAnswer
+was-malformed (sheet sh b) k e = absurd (let z : _≡_ {A = ℕ} 0 1 = cc e in omega arith)
+was-malformed (malformed j) k e = let p : j ≡ k = cc e in ap malformed p
+
+pub ends-here : (end : ℕ) (x : SheetRead) (v n m at : ℕ) → sheetAnswer x ≡ Read v n m at → at ≡ end → endsAt end x ≡ x
+unfolding endsAt
+ends-here end x v n m at e h = let w = was-read x v n m at e in rw (w .is-sheet, eq-eqb at end h)
+
+pub goes-on : (end : ℕ) (x : SheetRead) (v n m at : ℕ) → sheetAnswer x ≡ Read v n m at → (at ≡ end → ⊥) → endsAt end x ≡ malformed (3 + n)
+unfolding endsAt
+goes-on end x v n m at e h = let w = was-read x v n m at e in rw (w .is-sheet, ne-eqb at end h, w .lines)
+
+pub stays : (end : ℕ) (x : SheetRead) (k : ℕ) → sheetAnswer x ≡ Malformed k → endsAt end x ≡ x
+unfolding endsAt
+stays end x k e = rw (was-malformed x k e)
+
+-- a sheet has at most 256 lines
+pub few-lines : (s : List ℕ) (at v n m b : ℕ) → sheetAnswer (sheetAt s at) ≡ Read v n m b → n ≤ 256
+few-lines s at v n m b e = let w = was-read (sheetAt s at) v n m b e in omega (arith, w .lines, sheet-lines s at (w .of) b (w .is-sheet))

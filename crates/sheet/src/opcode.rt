@@ -180,3 +180,22 @@ pub fn sheet_at(
         }
     }
 }
+
+// The sheet that is the whole text.
+pub fn read_sheet(s: &[u8], types: &mut [[u8; 8]; 256], ops: &mut [[usize; 4]; 256]) -> Sheet
+    ensures { λ r. ⌜ r ≡ sheetAnswer (sheetOf (now (s .entry))) ⌝ }
+    ensures { λ _. ⌜ now (types .exit) ≡ typesIn (sheetOf (now (s .entry))) ⌝ }
+    ensures { λ _. ⌜ now (ops .exit) ≡ infosIn (sheetOf (now (s .entry))) ⌝ }
+{
+    let r = sheet_at(s, 0, types, ops);
+    match r {
+        Sheet::Read(_, lines, _, next) => {
+            if next == s.len() {
+                return r;
+            }
+            reset(types, ops);
+            Sheet::Malformed(3 + lines)
+        }
+        Sheet::Malformed(_) => r,
+    }
+}

@@ -11,7 +11,10 @@ use Rattle.spec_sheet.specs.Scan.{Step, after, keyedAt, lineEnd}
 use Rattle.spec_sheet.specs.Scan.Step.{next, off}
 use Rattle.spec_sheet.specs.Line.{Op, LineRead, lineAt}
 use Rattle.spec_sheet.specs.Line.LineRead.{line, noLine}
-use Rattle.spec_sheet.specs.Sheet.{accepted, onLine, OpsRead, opsFrom, infoRows, SheetRead, sheetOps, sheetAt}
+use lib.Dec.{eqb}
+use Rattle.lists.specs.Choice.{pick}
+use Rattle.spec_sheet.proofs.ScanLaws.{Reached, reached, keyed-bound}
+use Rattle.spec_sheet.specs.Sheet.{accepted, onLine, OpsRead, opsFrom, infoRows, Sheet, SheetRead, sheetOps, sheetAt}
 use Rattle.spec_sheet.specs.Sheet.OpsRead.{allRead, faultAfter}
 use Rattle.spec_sheet.specs.Sheet.SheetRead.{sheet, malformed}
 
@@ -73,3 +76,43 @@ module _ (s : List ℕ) (at : ℕ) where
   pub with-ops : (v a n b : ℕ) → versionAt ≡ next v a → countAt a ≡ next n b → (n ≡ 0 → ⊥) → sheetAt s at ≡ sheetOps v (opsFrom n s b 0 [])
   unfolding sheetAt after
   with-ops v a n b e f z = rw (e, f, ne-eqb n 0 z)
+
+  -- what a sheet that was read is made of
+  pub record SheetParts (sh : Sheet) (c : ℕ) : Type 0 where
+    pub place : ℕ
+    pub count : ℕ
+    pub behind : ℕ
+    pub version-is : versionAt ≡ next (sh .version) place
+    pub count-is : countAt place ≡ next count behind
+    pub ops-are : opsFrom count s behind 0 [] ≡ allRead (sh .opcodes) c
+
+  ops-parts : (v : ℕ) (x : OpsRead) (sh : Sheet) (c : ℕ) → sheetOps v x ≡ sheet sh c → (v ≡ sh .version) × (x ≡ allRead (sh .opcodes) c)
+  unfolding sheetOps
+  ops-parts v (allRead os b) sh c e =
+      let q : _≡_ {A = Sheet} (record { version = v; opcodes = os }) sh = cc e in
+      let w : b ≡ c = cc e in
+      (ap (λ (r : Sheet). r .version) q, rw w (ap (λ (r : Sheet). allRead (r .opcodes) c) q))
+  ops-parts v (faultAfter k) sh c e = absurd (let z : _≡_ {A = ℕ} 0 1 = cc e in omega arith)
+
+  pub sheet-parts : (sh : Sheet) (c : ℕ) → sheetAt s at ≡ sheet sh c → SheetParts sh c
+  unfolding sheetAt
+  sheet-parts sh c e =
+      let p = reached versionAt (malformed 1) _ (sheet sh c) e (never 1) in
+      let q = reached (countAt (p .place)) (malformed 2) _ (sheet sh c) (p .rest) (never 2) in
+      more p q (eqb (q .value) 0) (q .rest)
+    where
+      never : (k : ℕ) → malformed k ≡ sheet sh c → ⊥
+      never k f = let z : _≡_ {A = ℕ} 0 1 = cc f in omega arith
+
+      more : (p : Reached SheetRead versionAt (λ v a. after (countAt a) (malformed 2) λ n b. pick (eqb n 0) (malformed 2) (sheetOps v (opsFrom n s b 0 []))) (sheet sh c))
+          → (q : Reached SheetRead (countAt (p .place)) (λ n b. pick (eqb n 0) (malformed 2) (sheetOps (p .value) (opsFrom n s b 0 []))) (sheet sh c))
+          → (f : Bool) → pick f (malformed 2) (sheetOps (p .value) (opsFrom (q .value) s (q .place) 0 [])) ≡ sheet sh c → SheetParts sh c
+      more p q true f = absurd (never 2 f)
+      more p q false f =
+          let w = ops-parts (p .value) (opsFrom (q .value) s (q .place) 0 []) sh c f in
+          record { place = p .place; count = q .value; behind = q .place; version-is = p .first ∙ ap (λ (v : ℕ). next v (p .place)) (w .0); count-is = q .first; ops-are = w .1 }
+
+  pub sheet-lines : (sh : Sheet) (c : ℕ) → sheetAt s at ≡ sheet sh c → length (sh .opcodes) ≤ 256
+  sheet-lines sh c e =
+      let p = sheet-parts sh c e in
+      omega (arith, ops-count (p .count) s (p .behind) 0 [] (sh .opcodes) c (p .ops-are), keyed-bound (text "count=") 256 lineEnd s (p .place) (p .count) (p .behind) (p .count-is))

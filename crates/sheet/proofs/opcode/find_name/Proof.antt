@@ -1,19 +1,16 @@
 use lib.ListN.{length-take}
 use Rattle.sheet.specs.Sheets.{foundOf}
 use Rattle.spec_sheet.proofs.NameLaws.{find-end, find-here, find-next}
-use Rattle.spec_sheet.specs.Sheet.{findName, hasName}
-use lib.Seq.{length-take-le, getD-take}
-use lib.ListN.{length, take, drop, getD}
+use Rattle.spec_sheet.specs.Sheet.{findName}
+use lib.Seq.{getD-take}
+use lib.ListN.{take, drop, getD}
 use native.Mathlib.Omega.{arith}
-use Prim.Native.Nat.{_+_, _-_, _≤_}
-use mathlib.Core.List.{List, []}
+use Prim.Native.Nat.{_-_, _≤_}
+use mathlib.Core.List.{[]}
 use mathlib.Core.Path.{_≡_, sym, _∙_, ap}
 use borrow.Author.Needs.{needs}
 use Rattle.sheet.proofs.opcode.find_name.Statement.{statement}
 use Rattle.sheet.proofs.opcode.find_name.Tie as tie
-use Rattle.sheet.proofs.opcode.find_name.Reads as reads
-use Rattle.sheet.proofs.opcode.find_name.Lts as lts
-use Rattle.sheet.proofs.opcode.has_name.Reads as has-name-reads
 
 abbrev Inv-loop : tie.InvT-loop
 Inv-loop s name ops bound k₀ k = (k ≤ bound) × (findName s name 0 (take bound ops) ≡ findName s name k (drop k (take bound ops)))
@@ -21,23 +18,18 @@ Inv-loop s name ops bound k₀ k = (k ≤ bound) × (findName s name 0 (take bou
 abbrev μ-loop : tie.MeasureT-loop
 μ-loop s name ops bound k₀ k = bound - k
 
--- src/opcode.rt:37:5
 loop-holds : tie.Need-loop-holds Inv-loop μ-loop
 loop-holds c = search needs
 
--- src/opcode.rt:38:19
 mul-row : tie.Need-mul-row Inv-loop μ-loop
 mul-row c = search needs
 
--- src/opcode.rt:38:19
 element-copy-out-row : tie.Need-element-copy-out-row Inv-loop μ-loop
 element-copy-out-row c = search needs
 
--- src/opcode.rt:39:12
 has-name-requires : tie.Need-has-name-requires Inv-loop μ-loop
 has-name-requires c κs = search needs
 
--- src/opcode.rt:40:13
 returns : tie.Need-returns Inv-loop μ-loop
 unfolding foundOf
 returns c =
@@ -46,15 +38,12 @@ returns c =
     let g : getD (take (a .bound) (a .ops .now)) (l .k) [] ≡ getD (a .ops .now) (l .k) [] = getD-take (a .bound) (a .ops .now) (l .k) [] (omega arith) in
     sym (ap foundOf (l .inv .1 ∙ find-here (a .s .now) (a .name .now) (take (a .bound) (a .ops .now)) (l .k) (rw g (sym (c .before .has-name .ensures) ∙ c .if1 .taken))))
 
--- src/opcode.rt:42:9
 add-k : tie.Need-add-k Inv-loop μ-loop
 add-k c = search needs
 
--- src/opcode.rt:37:5
 loop-less : tie.Need-loop-less Inv-loop μ-loop
 loop-less c = search needs
 
--- src/opcode.rt:37:5
 loop-again : tie.Need-loop-again Inv-loop μ-loop
 loop-again c =
     let a = c .before .before .before .before .before .before .before .args in
@@ -62,7 +51,6 @@ loop-again c =
     let g : getD (take (a .bound) (a .ops .now)) (l .k) [] ≡ getD (a .ops .now) (l .k) [] = getD-take (a .bound) (a .ops .now) (l .k) [] (omega arith) in
     (omega arith, l .inv .1 ∙ find-next (a .s .now) (a .name .now) (take (a .bound) (a .ops .now)) (l .k) (rw g (sym (c .before .has-name .ensures) ∙ c .if1 .left)))
 
--- src/opcode.rt:32:1
 returns-2 : tie.Need-returns-2 Inv-loop μ-loop
 unfolding foundOf
 returns-2 c =

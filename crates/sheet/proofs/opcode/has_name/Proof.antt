@@ -5,37 +5,27 @@ use lib.ListN.{getD}
 use native.Mathlib.Omega.{arith}
 use Prim.Native.Nat.{ℕ}
 use mathlib.Core.List.{List}
-use mathlib.Core.Path.{_≡_, sym, _∙_, ap}
+use mathlib.Core.Path.{_∙_, ap}
 use borrow.Author.Needs.{needs}
 use Rattle.sheet.proofs.opcode.has_name.Statement.{statement}
 use Rattle.sheet.proofs.opcode.has_name.Tie as tie
-use Rattle.sheet.proofs.opcode.has_name.Reads as reads
-use Rattle.sheet.proofs.opcode.has_name.Lts as lts
-use Rattle.slices.proofs.compare.same_bytes.Reads as same-bytes-reads
-use Rattle.slices.proofs.part.part_of.Reads as part-of-reads
 
--- src/opcode.rt:22:17
 array-read-start : tie.Need-array-read-start
 array-read-start c = search needs
 
--- src/opcode.rt:23:16
 array-read-size : tie.Need-array-read-size
 array-read-size c = search needs
 
--- src/opcode.rt:25:9
 returns : tie.Need-returns
 unfolding hasName
 returns c = rw (c .if1 .taken, hasName)
 
--- src/opcode.rt:27:9
 part-of-requires : tie.Need-part-of-requires
 part-of-requires c κs = search needs
 
--- src/opcode.rt:28:5
 same-bytes-requires : tie.Need-same-bytes-requires
 same-bytes-requires c κs = search needs
 
--- src/opcode.rt:19:1
 returns-2 : tie.Need-returns-2
 unfolding hasName
 returns-2 c =

@@ -4,13 +4,10 @@ use Rattle.sheet.proofs.OpsLoop.{Going, start, ended, stopped, small, t
 use Rattle.sheet.specs.Sheets.{opsOf}
 use native.Mathlib.Omega.{arith}
 use Prim.Native.Nat.{_-_}
-use mathlib.Core.Path.{_≡_, sym, _∙_, ap}
+use mathlib.Core.Path.{sym, _∙_, ap}
 use borrow.Author.Needs.{needs}
 use Rattle.sheet.proofs.opcode.read_ops.Statement.{statement}
 use Rattle.sheet.proofs.opcode.read_ops.Tie as tie
-use Rattle.sheet.proofs.opcode.read_ops.Reads as reads
-use Rattle.sheet.proofs.opcode.read_ops.Lts as lts
-use Rattle.sheet.proofs.opcode.store_line.Reads as store-line-reads
 
 abbrev Inv-loop : tie.InvT-loop
 Inv-loop s from count types₀ ops₀ at₀ least₀ i₀ types ops at least i = Going s types ops «from» count at least i
@@ -18,25 +15,20 @@ Inv-loop s from count types₀ ops₀ at₀ least₀ i₀ types ops at least i =
 abbrev μ-loop : tie.MeasureT-loop
 μ-loop s from count types₀ ops₀ at₀ least₀ i₀ types ops at least i = count - i
 
--- src/opcode.rt:123:5
 loop-holds : tie.Need-loop-holds Inv-loop μ-loop
 loop-holds c =
     let p = c .before .pre in
     start _ _ _ _ _ (p .0) (p .1)
 
--- src/opcode.rt:124:13
 store-line-requires : tie.Need-store-line-requires Inv-loop μ-loop
 store-line-requires c κs = c .before .before .before .loop .inv .bound
 
--- src/opcode.rt:125:24
 enum-known-l : tie.Need-enum-known-l Inv-loop μ-loop
 enum-known-l c = search needs
 
--- src/opcode.rt:126:13
 enum-told : tie.Need-enum-told Inv-loop μ-loop
 enum-told c = search needs
 
--- src/opcode.rt:126:13
 returns : tie.Need-returns Inv-loop μ-loop
 unfolding opsOf
 returns c =
@@ -44,28 +36,23 @@ returns c =
     let e = stopped _ _ _ _ _ _ _ _ (l .inv) (c .before .before .before .before .before .loop-test .taken) (sym (c .before .before .store-line .ensures .0) ∙ c .enum-told .given .1) in
     (sym (ap opsOf e), (λ os b f. not-all _ _ os b e f))
 
--- src/opcode.rt:129:17
 add-least : tie.Need-add-least Inv-loop μ-loop
 add-least c =
     let l = c .before .before .before .before .before .before .before .loop in
     omega (arith, small _ _ _ _ _ _ _ _ (l .inv) (c .before .before .before .before .before .before .loop-test .taken) _ _ (sym (c .before .before .before .store-line .ensures .0) ∙ c .before .l .given .1))
 
--- src/opcode.rt:130:9
 add-i : tie.Need-add-i Inv-loop μ-loop
 add-i c = search needs
 
--- src/opcode.rt:123:5
 loop-less : tie.Need-loop-less Inv-loop μ-loop
 loop-less c = search needs
 
--- src/opcode.rt:123:5
 loop-again : tie.Need-loop-again Inv-loop μ-loop
 loop-again c =
     let l = c .before .before .before .before .before .before .before .loop in
     let w = c .before .before .before .store-line in
     turn _ _ _ _ _ _ _ _ (l .inv) (c .before .before .before .before .before .before .loop-test .taken) _ _ (sym (w .ensures .0) ∙ c .before .l .given .1) _ _ (w .ensures .1 .0) (w .ensures .1 .1)
 
--- src/opcode.rt:109:1
 returns-2 : tie.Need-returns-2 Inv-loop μ-loop
 unfolding opsOf
 returns-2 c =

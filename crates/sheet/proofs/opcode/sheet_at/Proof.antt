@@ -7,48 +7,36 @@ use Rattle.spec_sheet.proofs.SheetLaws.{no-version, no-count, count-zero, with-
 use Rattle.spec_sheet.proofs.ScanLaws.{keyed-bound}
 use Rattle.spec_sheet.specs.Scan.{lineEnd}
 use Rattle.lists.specs.Text.{text}
-use Prim.Native.Nat.{ℕ, _≤_}
+use Prim.Native.Nat.{ℕ}
 use mathlib.Core.List.{List}
 use native.Mathlib.Omega.{arith}
-use mathlib.Core.Path.{_≡_, sym, _∙_, ap}
+use mathlib.Core.Path.{_≡_, sym, _∙_}
 use borrow.Author.Needs.{needs}
 use Rattle.sheet.proofs.opcode.sheet_at.Statement.{statement}
 use Rattle.sheet.proofs.opcode.sheet_at.Tie as tie
-use Rattle.sheet.proofs.opcode.sheet_at.Reads as reads
-use Rattle.sheet.proofs.opcode.sheet_at.Lts as lts
-use Rattle.sheet.proofs.opcode.read_ops.Reads as read-ops-reads
-use Rattle.sheet.proofs.opcode.reset.Reads as reset-reads
-use Rattle.sheet.proofs.scan.keyed_at.Reads as keyed-at-reads
 
 -- the three promises of an answer
 three : (x : SheetRead) (r : Sheet) (types infos : List (List ℕ)) → Answers x r types infos → (r ≡ sheetAnswer x) × ((types ≡ typesIn x) × (infos ≡ infosIn x))
 three x r types infos a = (a .answer, (a .type-rows, a .info-rows))
 
--- src/opcode.rt:161:5
 reset-requires : tie.Need-reset-requires
 reset-requires c κs = search needs
 
--- src/opcode.rt:162:42
 slice-aggregate-keyed-at : tie.Need-slice-aggregate-keyed-at
 slice-aggregate-keyed-at c = search needs
 
--- src/opcode.rt:162:67
 slice-aggregate-keyed-at-2 : tie.Need-slice-aggregate-keyed-at-2
 slice-aggregate-keyed-at-2 c = search needs
 
--- src/opcode.rt:162:9
 keyed-at-requires : tie.Need-keyed-at-requires
 keyed-at-requires c κs = search needs
 
--- src/opcode.rt:163:20
 enum-known-v : tie.Need-enum-known-v
 enum-known-v c = search needs
 
--- src/opcode.rt:164:9
 enum-told : tie.Need-enum-told
 enum-told c = search needs
 
--- src/opcode.rt:164:9
 returns : tie.Need-returns
 unfolding text
 returns c =
@@ -56,27 +44,21 @@ returns c =
     let t = c .before .before .before .before .before .reset .ensures in
     three _ _ _ _ (refused _ 1 _ _ (no-version (a .s .now) (a .at) (was-off _ (sym (c .before .before .keyed-at .ensures) ∙ c .enum-told .given .1))) (t .0) (t .1))
 
--- src/opcode.rt:166:41
 slice-aggregate-keyed-at-3 : tie.Need-slice-aggregate-keyed-at-3
 slice-aggregate-keyed-at-3 c = search needs
 
--- src/opcode.rt:166:57
 slice-aggregate-keyed-at-4 : tie.Need-slice-aggregate-keyed-at-4
 slice-aggregate-keyed-at-4 c = search needs
 
--- src/opcode.rt:166:9
 keyed-at-requires-2 : tie.Need-keyed-at-requires-2
 keyed-at-requires-2 c κs = search needs
 
--- src/opcode.rt:167:20
 enum-known-n : tie.Need-enum-known-n
 enum-known-n c = search needs
 
--- src/opcode.rt:168:9
 enum-told-2 : tie.Need-enum-told-2
 enum-told-2 c = search needs
 
--- src/opcode.rt:168:9
 returns-2 : tie.Need-returns-2
 unfolding text
 returns-2 c =
@@ -86,7 +68,6 @@ returns-2 c =
     let n = was-off _ (sym (c .before .before .keyed-at2 .ensures) ∙ c .enum-told2 .given .1) in
     three _ _ _ _ (refused _ 2 _ _ (no-count (a .s .now) (a .at) _ _ v n) (t .0) (t .1))
 
--- src/opcode.rt:171:9
 returns-3 : tie.Need-returns-3
 unfolding text
 returns-3 c =
@@ -96,23 +77,18 @@ returns-3 c =
     let n = was-next _ (sym (c .before .before .before .before .keyed-at2 .ensures) ∙ c .before .before .n .given .1) in
     three _ _ _ _ (refused _ 2 _ _ (count-zero (a .s .now) (a .at) _ _ _ _ v n (c .if1 .taken)) (t .0) (t .1))
 
--- src/opcode.rt:174:9
 read-ops-requires : tie.Need-read-ops-requires
 read-ops-requires c κs = c .before .before .before .before .before .before .before .before .before .before .before .before .before .before .before .reset .ensures
 
--- src/opcode.rt:176:18
 enum-known-o : tie.Need-enum-known-o
 enum-known-o c = search needs
 
--- src/opcode.rt:177:25
 enum-known-o-2 : tie.Need-enum-known-o-2
 enum-known-o-2 c = search needs
 
--- src/opcode.rt:178:13
 reset-requires-2 : tie.Need-reset-requires-2
 reset-requires-2 c κs = search needs
 
--- src/opcode.rt:179:30
 add-t38 : tie.Need-add-t38
 unfolding text
 add-t38 c =
@@ -121,7 +97,6 @@ add-t38 c =
     let m = keyed-bound (text "count=") 256 lineEnd (a .s .now) _ _ _ n in
     omega (arith, m, fault-inside _ _ _ _ (sym (c .before .before .before .before .before .before .read-ops .ensures .0) ∙ c .before .before .before .before .o2 .given .1))
 
--- src/opcode.rt:151:1
 returns-4 : tie.Need-returns-4
 unfolding text
 returns-4 c =
@@ -132,7 +107,6 @@ returns-4 c =
     let o = c .before .before .before .read-ops .ensures in
     three _ _ _ _ (rw e (whole _ _ (a .s .now) _ _ _ _ _ (sym (o .0) ∙ c .before .o .given .1) (o .1)))
 
--- src/opcode.rt:151:1
 returns-5 : tie.Need-returns-5
 unfolding text
 returns-5 c =

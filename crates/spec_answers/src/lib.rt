@@ -1,0 +1,1 @@
+// What every operation answers. There is no code here: see specs/.

@@ -1,0 +1,5 @@
+pub mod Record
+pub mod Decode
+pub mod Function
+pub mod Encode
+pub mod Operation

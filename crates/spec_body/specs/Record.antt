@@ -1,0 +1,47 @@
+-- The record of a decoded instruction (document 01, 'Decoder and encoder'). Assumes nothing.
+use mathlib.Core.Bool.{Bool, true, false}
+use mathlib.Core.List.{List, [], _∷_, _++_}
+use Prim.Native.Nat.{ℕ, zero, suc, _+_}
+use lib.Dec.{eqb}
+use lib.ListN.{take, drop, getD}
+use Rattle.lists.specs.Choice.{pick}
+use Rattle.lists.specs.Scan.{part}
+use Rattle.spec_numbers.specs.LittleEndian.{le}
+use Rattle.spec_sheet.specs.Types.{widthOf, kindOf}
+
+-- a sum over a list
+unfoldable pub sumBy : (ℕ → ℕ) → List ℕ → ℕ
+sumBy f [] = 0
+sumBy f (c ∷ cs) = f c + sumBy f cs
+
+-- the bytes of the operands of a row of type codes, and of the whole instruction
+abbrev pub widths : List ℕ → ℕ
+widths row = sumBy widthOf row
+
+abbrev pub lengthOf : List ℕ → ℕ
+lengthOf row = 1 + widths row
+
+-- how many operands a row has
+abbrev pub oneFor : ℕ → ℕ
+oneFor c = pick (eqb c 0) 0 1
+
+abbrev pub countOf : List ℕ → ℕ
+countOf row = sumBy oneFor row
+
+-- "eight pairs of kind and bits; unused words 0", the first operand at p
+unfoldable pub pairs : List ℕ → List ℕ → ℕ → List ℕ
+pairs [] s p = []
+pairs (c ∷ cs) s p = kindOf c ∷ le (part s p (widthOf c)) ∷ pairs cs s (p + widthOf c)
+
+-- "offset, opcode, length, operand count, then eight pairs", of the instruction at `at` whose operands have the row's types
+abbrev pub recordOf : List ℕ → List ℕ → ℕ → List ℕ
+recordOf row s at = at ∷ getD s at 0 ∷ lengthOf row ∷ countOf row ∷ pairs row s (at + 1)
+
+-- records one after the other, as they are lent
+unfoldable pub join : List (List ℕ) → List ℕ
+join [] = []
+join (r ∷ rs) = r ++ join rs
+
+-- "A record is 20 u64 words"
+abbrev pub recordWords : ℕ
+recordWords = 20

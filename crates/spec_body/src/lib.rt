@@ -1,0 +1,1 @@
+// What decoding a body and encoding records mean. There is no code here: see specs/ and proofs/.

@@ -1,7 +1,7 @@
 -- Laws of scans, at an index and over joined lists. Assumes nothing.
 use mathlib.Core.Path.{_≡_, refl, ap, sym, _∙_}
 use mathlib.Core.Bool.{Bool, true, false}
-use Prim.Native.Nat.{ℕ, suc, _+_, _-_, _≤_, _<_}
+use Prim.Native.Nat.{ℕ, zero, suc, _+_, _-_, _≤_, _<_}
 use native.Mathlib.Numerals.{add-one}
 use native.Mathlib.Omega.{arith}
 use mathlib.Core.List.{List, [], _∷_, _++_}
@@ -145,3 +145,11 @@ unfolding opens
 opens-length [] s e = omega arith
 opens-length (a ∷ p) [] e = true-not-false false e refl
 opens-length (a ∷ p) (b ∷ s) e = omega (arith, opens-length p s (both-right (eqb a b) (opens p s) e))
+
+-- what passes for every element and the default passes at every index
+pub all-at : (p : ℕ → Bool) (s : List ℕ) (d : ℕ) → all p s ≡ true → p d ≡ true → (i : ℕ) → p (getD s i d) ≡ true
+unfolding all
+all-at p [] d e f zero = f
+all-at p [] d e f (suc i) = f
+all-at p (a ∷ s) d e f zero = both-left (p a) (all p s) e
+all-at p (a ∷ s) d e f (suc i) = all-at p s d (both-right (p a) (all p s) e) f i

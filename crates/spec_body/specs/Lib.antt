@@ -1,5 +1,6 @@
 pub mod Record
 pub mod Decode
+pub mod Starts
 pub mod Function
 pub mod Encode
 pub mod Operation

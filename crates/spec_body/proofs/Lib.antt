@@ -1,2 +1,4 @@
 pub mod DecodeLaws
 pub mod StartLaws
+pub mod OperandLaws
+pub mod EncodeLaws

@@ -1,0 +1,3 @@
+// Decoding a body into records: decode_function_instructions of instructions.rs.
+pub mod record;
+pub mod words;

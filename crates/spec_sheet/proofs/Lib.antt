@@ -4,4 +4,6 @@ pub mod NameLaws
 pub mod OpLaws
 pub mod FillLaws
 pub mod SheetLaws
+pub mod TakenLaws
+pub mod RowLaws
 pub mod SheetTrials

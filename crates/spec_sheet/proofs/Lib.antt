@@ -4,6 +4,7 @@ pub mod NameLaws
 pub mod OpLaws
 pub mod FillLaws
 pub mod SheetLaws
+pub mod NameTextLaws
 pub mod TakenLaws
 pub mod RowLaws
 pub mod SheetTrials

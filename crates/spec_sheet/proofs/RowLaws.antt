@@ -4,13 +4,14 @@ use mathlib.Core.List.{List, [], _∷_, _++_, List·Memᴰ, List·Memᴰ·head, 
 use mathlib.Core.Logic.{⊎-elim}
 use Prim.Native.Nat.{ℕ, zero, suc, _+_, _-_, _≤_, _<_}
 use native.Mathlib.Omega.{arith}
-use lib.ListN.{length, getD, set, replicate, length-set, length-append, getD-replicate, List·getD-eq-default}
-use lib.Seq.{getD-set-same, getD-set-other}
+use lib.ListN.{length, getD, set, replicate, length-set, length-append, length-replicate, getD-replicate, List·getD-append, List·getD-eq-default}
+use lib.Seq.{getD-set-same, getD-set-other, getD-append-add}
 use Rattle.lists.proofs.Tests.{by-eqb, by-leb}
 use Rattle.spec_sheet.specs.Line.{Op, typeRow, infoRow}
 use Rattle.spec_sheet.specs.Sheet.{fill, noTypeRows, noInfoRows, typeRows, infoRows, Sheet, SheetRead, sheetAt, above}
 use Rattle.spec_sheet.specs.Sheet.SheetRead.{sheet}
-use Rattle.spec_sheet.proofs.OpLaws.{GoodOp, TypeCodes, none, one}
+use Rattle.spec_sheet.proofs.OpLaws.{GoodName, GoodOp, TypeCodes, none, one}
+use Rattle.spec_sheet.proofs.NameTextLaws.{name-least}
 use Rattle.spec_sheet.proofs.FillLaws.{fill-more, above-more}
 use Rattle.spec_sheet.proofs.TakenLaws.{Follows, Taken, start, more, sheet-taken, sheet-some}
 
@@ -92,5 +93,173 @@ rows-at s os start k h = gap (empty-rows k h)
 rows-at s os (more seen o t f e) k h =
     rw e (by-eqb k (o .code) (λ q. rw q (op (own-rows s seen o (f .good)))) (λ q. keep-rows s seen o k q (rows-at s seen t k h)))
 
-pub sheet-rows : (s : List ℕ) (at : ℕ) (sh : Sheet) (c : ℕ) → sheetAt s at ≡ sheet sh c → (k : ℕ) → k < 256 → RowsAt s (sh .opcodes) k
-sheet-rows s at sh c e = rows-at s (sh .opcodes) (sheet-taken s at sh c e)
+-- a type row: the codes of an opcode's operands, their count beside it, and zeros behind
+pub record TypesOf (row : List ℕ) (n : ℕ) : Type 0 where
+  pub codes : List ℕ
+  pub good : TypeCodes codes
+  pub few : length codes ≤ 8
+  pub row-is : row ≡ codes ++ replicate (8 - length codes) 0
+  pub count-is : n ≡ length codes
+
+same-types : {row row′ : List ℕ} {n n′ : ℕ} → row ≡ row′ → n ≡ n′ → TypesOf row n → TypesOf row′ n′
+same-types e f t = rw (e, f) at t
+
+op-types : (s : List ℕ) (o : Op) → GoodOp s o → TypesOf (typeRow o) (getD (infoRow o) 0 0)
+unfolding typeRow infoRow
+op-types s o g = record { codes = o .types; good = g .types; few = g .few; row-is = refl; count-is = refl }
+
+pub row-types : (s : List ℕ) (os : List Op) (k : ℕ) → RowsAt s os k → TypesOf (getD (typeRows os) k []) (getD (getD (infoRows os) k []) 0 0)
+row-types s os k (gap g) =
+    same-types (sym (g .types)) (ap (λ (r : List ℕ). getD r 0 0) (sym (g .info)))
+    record { codes = []; good = none; few = omega arith; row-is = refl; count-is = refl }
+row-types s os k (op r) = same-types (sym (r .types)) (ap (λ (l : List ℕ). getD l 0 0) (sym (r .info))) (op-types s (r .op) (r .good))
+
+-- every code is that of a type, and zeros stand behind
+codes-at : (ts : List ℕ) → TypeCodes ts → (i : ℕ) → i < length ts → (0 < getD ts i 0) × (getD ts i 0 ≤ 12)
+codes-at [] none i h = absurd (omega arith)
+codes-at (c ∷ cs) (one l m t) zero h = (l, m)
+codes-at (c ∷ cs) (one l m t) (suc i) h = codes-at cs t i (omega arith)
+
+zeros-at : (n i : ℕ) → _≡_ {A = ℕ} (getD (replicate n 0) i 0) 0
+zeros-at zero i = refl
+zeros-at (suc n) zero = refl
+zeros-at (suc n) (suc i) = zeros-at n i
+
+module _ (row : List ℕ) (n : ℕ) (t : TypesOf row n) where
+  pub types-length : length row ≡ 8
+  types-length = rw (t .row-is, length-append, length-replicate) (omega (arith, t .few))
+
+  pub types-most : n ≤ 8
+  types-most = omega (arith, t .count-is, t .few)
+
+  pub types-code : (i : ℕ) → i < n → (0 < getD row i 0) × (getD row i 0 ≤ 12)
+  types-code i h =
+      let l : i < length (t .codes) = omega (arith, t .count-is) in
+      rw (t .row-is, List·getD-append (t .codes) (replicate (8 - length (t .codes)) 0) 0 i l) (codes-at (t .codes) (t .good) i l)
+
+  pub types-end : (i : ℕ) → n ≤ i → getD row i 0 ≡ 0
+  types-end i h =
+      let e : i ≡ length (t .codes) + (i - length (t .codes)) = omega (arith, t .count-is) in
+      ap (λ (r : List ℕ). getD r i 0) (t .row-is)
+      ∙ ap (λ (j : ℕ). getD (t .codes ++ replicate (8 - length (t .codes)) 0) j 0) e
+      ∙ getD-append-add (t .codes) (replicate (8 - length (t .codes)) 0) (i - length (t .codes)) 0
+      ∙ zeros-at (8 - length (t .codes)) (i - length (t .codes))
+
+  pub types-small : (i : ℕ) → getD row i 0 ≤ 12
+  types-small i = by-leb n i (λ h. omega (arith, types-end i h)) (λ h. types-code i h .1)
+
+-- the largest opcode: numbers are below 256, and each is below one more than the last
+pub above-most : (s : List ℕ) (os : List Op) → Taken s os → above 0 os ≤ 256
+unfolding above
+above-most s os start = omega arith
+above-most s os (more seen o t f e) = rw (e, above-more 0 seen o) (omega (arith, f .good .code))
+
+pub above-some : (s : List ℕ) (os : List Op) → Taken s os → 0 < length os → 0 < above 0 os
+above-some s os start h = absurd (omega arith)
+above-some s os (more seen o t f e) h = rw (e, above-more 0 seen o) (omega arith)
+
+pub listed-below : (s : List ℕ) (os : List Op) → Taken s os → (p : Op) → List·Memᴰ p os → p .code < above 0 os
+listed-below s os start p m = absurd (List·Memᴰ·not-nil m)
+listed-below s os (more seen o t f e) p m =
+    rw (e, above-more 0 seen o)
+    (⊎-elim (λ (w : List·Memᴰ p seen). omega (arith, f .rises, listed-below s seen t p w))
+    (λ (w : List·Memᴰ p (o ∷ [])). omega (arith, ap (λ (x : Op). x .code) (List·Memᴰ·eq-of-singleton w)))
+    (List·Memᴰ·append-cases seen (rw e at m)))
+
+-- rows from there on are gaps
+pub gaps-from : (s : List ℕ) (os : List Op) → Taken s os → (k : ℕ) → k < 256 → above 0 os ≤ k → GapRows os k
+gaps-from s os t k h l = go (rows-at s os t k h)
+  where
+    go : RowsAt s os k → GapRows os k
+    go (gap g) = g
+    go (op r) = absurd (omega (arith, r .code, listed-below s os t (r .op) (r .listed)))
+
+-- every opcode of the list has its rows
+pub listed-rows : (s : List ℕ) (os : List Op) → Taken s os → (p : Op) → List·Memᴰ p os
+    → (getD (typeRows os) (p .code) [] ≡ typeRow p) × (getD (infoRows os) (p .code) [] ≡ infoRow p)
+unfolding own-rows
+listed-rows s os start p m = absurd (List·Memᴰ·not-nil m)
+listed-rows s os (more seen o t f e) p m =
+    rw e
+    (⊎-elim (λ (w : List·Memᴰ p seen).
+    let ih = listed-rows s seen t p w in
+    let b = listed-below s seen t p w in
+    let d : p .code ≡ o .code → ⊥ = λ q. omega (arith, f .rises) in
+    (more-other typeRow noTypeRows seen o (p .code) d ∙ ih .0, more-other infoRow noInfoRows seen o (p .code) d ∙ ih .1))
+    (λ (w : List·Memᴰ p (o ∷ [])).
+    let r = own-rows s seen o (f .good) in
+    rw (List·Memᴰ·eq-of-singleton w) (r .types, r .info))
+    (List·Memᴰ·append-cases seen (rw e at m)))
+
+-- a row of a name is an opcode's, and its name stands in the text
+pub named-row : (s : List ℕ) (os : List Op) → Taken s os → (k : ℕ) → 0 < getD (getD (infoRows os) k []) 3 0 → OpRows s os k
+named-row s os t k h = by-leb 256 k past (λ l. go (rows-at s os t k l))
+  where
+    past : 256 ≤ k → OpRows s os k
+    past l = absurd (omega (arith, ap (λ (r : List ℕ). getD r 3 0) (info-rows-past os k l)))
+
+    go : RowsAt s os k → OpRows s os k
+    go (gap g) = absurd (omega (arith, ap (λ (r : List ℕ). getD r 3 0) (g .info)))
+    go (op r) = r
+
+pub row-name : (s : List ℕ) (os : List Op) (k : ℕ) → OpRows s os k → GoodName s (getD (getD (infoRows os) k []) 2 0) (getD (getD (infoRows os) k []) 3 0)
+unfolding infoRow
+row-name s os k r = rw (r .info) (r .good .name)
+
+pub row-named : (s : List ℕ) (os : List Op) (k : ℕ) → OpRows s os k → 0 < getD (getD (infoRows os) k []) 3 0
+row-named s os k r = name-least s _ _ (row-name s os k r)
+
+-- the same of a sheet that was read
+module _ (s : List ℕ) (at : ℕ) (sh : Sheet) (c : ℕ) (e : sheetAt s at ≡ sheet sh c) where
+  taken : Taken s (sh .opcodes)
+  taken = sheet-taken s at sh c e
+
+  pub sheet-rows : (k : ℕ) → k < 256 → RowsAt s (sh .opcodes) k
+  sheet-rows = rows-at s (sh .opcodes) taken
+
+  -- the row of types, its count, and that the row has eight codes
+  pub sheet-types : (k : ℕ) → k < 256 → TypesOf (getD (typeRows (sh .opcodes)) k []) (getD (getD (infoRows (sh .opcodes)) k []) 0 0)
+  sheet-types k h = row-types s (sh .opcodes) k (sheet-rows k h)
+
+  pub sheet-type-length : (k : ℕ) → k < 256 → length (getD (typeRows (sh .opcodes)) k []) ≡ 8
+  sheet-type-length k h = types-length _ _ (sheet-types k h)
+
+  -- at any place: a code is at most 12, a count at most 8, a jump mark at most 1
+  pub sheet-code-most : (k i : ℕ) → getD (getD (typeRows (sh .opcodes)) k []) i 0 ≤ 12
+  sheet-code-most k i =
+      by-leb 256 k
+      (λ h. rw (type-rows-past (sh .opcodes) k h) (omega arith))
+      (λ h. types-small _ _ (sheet-types k h) i)
+
+  pub sheet-count-most : (k : ℕ) → getD (getD (infoRows (sh .opcodes)) k []) 0 0 ≤ 8
+  sheet-count-most k =
+      by-leb 256 k
+      (λ h. rw (info-rows-past (sh .opcodes) k h) (omega arith))
+      (λ h. types-most _ _ (sheet-types k h))
+
+  pub sheet-jump-most : (k : ℕ) → getD (getD (infoRows (sh .opcodes)) k []) 1 0 ≤ 1
+  unfolding infoRow
+  sheet-jump-most k = by-leb 256 k (λ h. rw (info-rows-past (sh .opcodes) k h) (omega arith)) (λ h. go (sheet-rows k h))
+    where
+      go : RowsAt s (sh .opcodes) k → getD (getD (infoRows (sh .opcodes)) k []) 1 0 ≤ 1
+      go (gap g) = rw (g .info) (omega arith)
+      go (op r) = rw (r .info) (omega (arith, r .good .jump))
+
+  -- one more than the largest opcode is 1 to 256, every opcode is below it, and rows from there on are gaps
+  pub sheet-above-least : 1 ≤ above 0 (sh .opcodes)
+  sheet-above-least = above-some s (sh .opcodes) taken (sheet-some s at sh c e)
+
+  pub sheet-above-most : above 0 (sh .opcodes) ≤ 256
+  sheet-above-most = above-most s (sh .opcodes) taken
+
+  pub sheet-listed-below : (o : Op) → List·Memᴰ o (sh .opcodes) → o .code < above 0 (sh .opcodes)
+  sheet-listed-below = listed-below s (sh .opcodes) taken
+
+  pub sheet-gaps : (k : ℕ) → k < 256 → above 0 (sh .opcodes) ≤ k → GapRows (sh .opcodes) k
+  sheet-gaps = gaps-from s (sh .opcodes) taken
+
+  -- a row with a name is below it
+  pub sheet-named-below : (k : ℕ) → 0 < getD (getD (infoRows (sh .opcodes)) k []) 3 0 → k < above 0 (sh .opcodes)
+  sheet-named-below k h =
+      let r = named-row s (sh .opcodes) taken k h in
+      omega (arith, r .code, sheet-listed-below (r .op) (r .listed))

@@ -7,4 +7,5 @@ pub mod SheetLaws
 pub mod NameTextLaws
 pub mod TakenLaws
 pub mod RowLaws
+pub mod OwnNameLaws
 pub mod SheetTrials

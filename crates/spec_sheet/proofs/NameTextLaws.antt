@@ -1,21 +1,21 @@
 -- Laws of a name that stands in a text: its bytes, its length and how it opens. Assumes nothing.
-use mathlib.Core.Path.{_≡_, refl, ap, sym, _∙_}
+use mathlib.Core.Path.{_≡_, refl, ap}
 use mathlib.Core.Bool.{Bool, true, false, not}
 use mathlib.Core.List.{List, [], _∷_}
-use Prim.Native.Nat.{ℕ, zero, suc, _+_, _≤_, _<_}
+use Prim.Native.Nat.{ℕ, zero, suc, _≤_, _<_}
 use native.Mathlib.Nat.{add-zero}
 use native.Mathlib.Omega.{arith}
 use lib.Dec.{eqb, leb}
 use lib.ListN.{length, take, drop, getD}
 use lib.Seq.{drop-cons, length-take-le}
 use borrow.Author.Tests.{leb-true}
-use Rattle.lists.specs.Choice.{both, either}
+use Rattle.lists.specs.Choice.{both}
 use Rattle.lists.specs.Scan.{run, all, opens, part}
 use Rattle.lists.specs.Text.{text}
 use Rattle.lists.proofs.Tests.{both-left, both-right, both-yes, not-true, by-test, true-not-false}
 use Rattle.lists.proofs.Parts.{part-at, inside}
 use Rattle.lists.proofs.Scans.{run-le, run-cons-go}
-use Rattle.spec_sheet.specs.Scan.{isUpper, isLower, isDigit, isNameByte, mayBeName}
+use Rattle.spec_sheet.specs.Scan.{isUpper, isNameByte, mayBeName}
 use Rattle.spec_sheet.proofs.OpLaws.{GoodName}
 
 -- what a run takes passes its test

@@ -8,12 +8,12 @@ use lib.ListN.{length, getD, set, replicate, length-set, length-append, length-r
 use lib.Seq.{getD-set-same, getD-set-other, getD-append-add}
 use Rattle.lists.proofs.Tests.{by-eqb, by-leb}
 use Rattle.spec_sheet.specs.Line.{Op, typeRow, infoRow}
-use Rattle.spec_sheet.specs.Sheet.{fill, noTypeRows, noInfoRows, typeRows, infoRows, Sheet, SheetRead, sheetAt, above}
+use Rattle.spec_sheet.specs.Sheet.{fill, noTypeRows, noInfoRows, typeRows, infoRows, Sheet, sheetAt, above}
 use Rattle.spec_sheet.specs.Sheet.SheetRead.{sheet}
 use Rattle.spec_sheet.proofs.OpLaws.{GoodName, GoodOp, TypeCodes, none, one}
 use Rattle.spec_sheet.proofs.NameTextLaws.{name-least}
 use Rattle.spec_sheet.proofs.FillLaws.{fill-more, above-more}
-use Rattle.spec_sheet.proofs.TakenLaws.{Follows, Taken, start, more, sheet-taken, sheet-some}
+use Rattle.spec_sheet.proofs.TakenLaws.{Taken, start, more, sheet-taken, sheet-some}
 
 -- filling changes no length
 pub fill-length : (row : Op → List ℕ) (rows : List (List ℕ)) (os : List Op) → length (fill row rows os) ≡ length rows

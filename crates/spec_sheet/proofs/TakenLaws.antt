@@ -1,8 +1,8 @@
 -- What is known of the opcodes of a sheet that was read: each was taken behind those before it. Assumes nothing.
-use mathlib.Core.Path.{_≡_, refl, ap, sym, _∙_}
+use mathlib.Core.Path.{_≡_, refl, sym, _∙_}
 use mathlib.Core.Bool.{Bool, true, false}
 use mathlib.Core.List.{List, [], _∷_, _++_}
-use Prim.Native.Nat.{ℕ, zero, suc, _+_, _≤_, _<_}
+use Prim.Native.Nat.{ℕ, zero, suc, _≤_, _<_}
 use native.Mathlib.Omega.{arith}
 use lib.Dec.{leb}
 use lib.ListN.{length, take}
@@ -13,9 +13,9 @@ use Rattle.lists.specs.Found.Found.{found, missing}
 use Rattle.lists.proofs.Tests.{both-left, both-right, by-eqb, true-not-false}
 use Rattle.spec_sheet.specs.Line.{Op, LineRead, nameOf, lineAt}
 use Rattle.spec_sheet.specs.Line.LineRead.{line, noLine}
-use Rattle.spec_sheet.specs.Sheet.{infoRows, findName, isMissing, mayFollow, accepted, OpsRead, opsFrom, Sheet, SheetRead, sheetAt, above}
+use Rattle.spec_sheet.specs.Sheet.{infoRows, findName, isMissing, mayFollow, accepted, OpsRead, opsFrom, Sheet, sheetAt, above}
 use Rattle.spec_sheet.specs.Sheet.OpsRead.{allRead, faultAfter}
-use Rattle.spec_sheet.specs.Sheet.SheetRead.{sheet, malformed}
+use Rattle.spec_sheet.specs.Sheet.SheetRead.{sheet}
 use Rattle.spec_sheet.proofs.OpLaws.{GoodOp, line-good}
 use Rattle.spec_sheet.proofs.FillLaws.{above-more, accepted-is}
 use Rattle.spec_sheet.proofs.SheetLaws.{OnLine, passed, stopped, on-line, ops-count, sheet-parts, count-zero}

@@ -1,13 +1,16 @@
 -- Laws of the twelve operand types. Assumes nothing.
 use mathlib.Core.Path.{_≡_, refl}
-use mathlib.Core.Bool.{Bool, true, false}
+use mathlib.Core.Bool.{Bool, true, false, not}
 use mathlib.Core.List.{List, [], _∷_}
-use Prim.Native.Nat.{ℕ, suc, _+_, _≤_, _<_}
+use Prim.Native.Nat.{ℕ, zero, suc, _+_, _≤_, _<_}
 use native.Mathlib.Omega.{arith}
-use lib.ListN.{length}
+use lib.Dec.{eqb, leb}
+use lib.ListN.{length, getD, List·getD-eq-default}
+use borrow.Author.Tests.{leb-true, le-leb, eqb-true, eq-eqb}
 use Rattle.lists.specs.Scan.{same}
-use Rattle.lists.specs.Choice.{pick}
-use Rattle.spec_sheet.specs.Types.{typeCodeIn, typeCode, typeNames}
+use Rattle.lists.specs.Choice.{pick, both, either, within}
+use Rattle.lists.proofs.Tests.{both-left, both-right, both-yes, by-eqb, by-leb, true-not-false}
+use Rattle.spec_sheet.specs.Types.{typeCodeIn, typeCode, typeNames, widthOf, widths, familyOf, families, kindOf, kinds}
 
 -- the first name is the word, or is not
 pub code-here : (name : List ℕ) (names : List (List ℕ)) (word : List ℕ) (k : ℕ) → same word name ≡ true → typeCodeIn (name ∷ names) k word ≡ k
@@ -31,3 +34,107 @@ code-bound (name ∷ names) k word h = go (same word name) (code-bound names (su
 pub type-code-bound : (word : List ℕ) → typeCode word ≤ 12
 unfolding typeCode typeNames
 type-code-bound word = omega (arith, code-bound typeNames 1 word (omega arith))
+
+-- a test that numbers below n pass, computed once, passes at each of them
+unfoldable pub below : (ℕ → Bool) → ℕ → Bool
+below p zero = true
+below p (suc n) = both (p n) (below p n)
+
+pub each-below : (p : ℕ → Bool) (n : ℕ) → below p n ≡ true → (c : ℕ) → c < n → p c ≡ true
+unfolding below
+each-below p zero e c h = absurd (omega arith)
+each-below p (suc n) e c h =
+    by-eqb c n
+    (λ q. rw q (both-left (p n) (below p n) e))
+    (λ q. each-below p n (both-right (p n) (below p n) e) c (omega (arith, q)))
+
+-- one test implies another
+unfoldable pub implies : Bool → Bool → Bool
+implies a b = either (not a) b
+
+pub implied : (a b : Bool) → implies a b ≡ true → a ≡ true → b ≡ true
+unfolding implies
+implied true b e h = e
+implied false b e h = true-not-false false h refl
+
+-- what one test of a code says of another, over all codes
+pub by-codes : (p q : ℕ → Bool) → below (λ c. implies (p c) (q c)) 13 ≡ true → (c : ℕ) → c ≤ 12 → p c ≡ true → q c ≡ true
+by-codes p q e c h = implied (p c) (q c) (each-below (λ d. implies (p d) (q d)) 13 e c (omega arith))
+
+-- a type that is one takes bytes, and has a family
+pub width-some : (c : ℕ) → 0 < c → c ≤ 12 → 1 ≤ widthOf c
+unfolding below implies widthOf
+width-some c h l = leb-true 1 (widthOf c) (by-codes (λ d. leb 1 d) (λ d. leb 1 (widthOf d)) refl c l (le-leb 1 c h))
+
+pub family-some : (c : ℕ) → 0 < c → c ≤ 12 → 1 ≤ familyOf c
+unfolding below implies familyOf
+family-some c h l = leb-true 1 (familyOf c) (by-codes (λ d. leb 1 d) (λ d. leb 1 (familyOf d)) refl c l (le-leb 1 c h))
+
+-- the code of no type takes none and is in none
+pub width-none : widthOf 0 ≡ 0
+unfolding widthOf
+width-none = refl
+
+pub family-none : familyOf 0 ≡ 0
+unfolding familyOf
+family-none = refl
+
+-- the most that a table of codes holds, at any code
+table-most : (l : List ℕ) (n most : ℕ) → length l ≤ n → below (λ c. leb (getD l c 0) most) n ≡ true → (c : ℕ) → getD l c 0 ≤ most
+table-most l n most h e c =
+    by-leb n c
+    (λ q. let z : length l ≤ c = omega arith in rw (List·getD-eq-default l 0 z) (omega arith))
+    (λ q. leb-true _ _ (each-below (λ d. leb (getD l d 0) most) n e c q))
+
+pub width-most : (c : ℕ) → widthOf c ≤ 8
+unfolding below widthOf
+width-most c = table-most widths 13 8 (omega arith) refl c
+
+pub family-most : (c : ℕ) → familyOf c ≤ 6
+unfolding below familyOf
+family-most c = table-most families 13 6 (omega arith) refl c
+
+pub kind-most : (c : ℕ) → kindOf c ≤ 5
+unfolding below kindOf
+kind-most c = table-most kinds 13 5 (omega arith) refl c
+
+-- a code behind the twelve has no family
+family-past : (c : ℕ) → 12 < c → familyOf c ≡ 0
+unfolding familyOf
+family-past c h = let z : length families ≤ c = omega arith in List·getD-eq-default families 0 z
+
+-- the codes of a family stand side by side
+family-range : (f lo hi : ℕ) → 0 < f → below (λ c. implies (eqb (familyOf c) f) (within lo hi c)) 13 ≡ true → (c : ℕ) → familyOf c ≡ f → (lo ≤ c) × (c ≤ hi)
+family-range f lo hi h e c w =
+    by-leb c 12
+    (λ l. let q = by-codes (λ d. eqb (familyOf d) f) (within lo hi) e c l (eq-eqb (familyOf c) f w) in
+    (leb-true lo c (both-left (leb lo c) (leb c hi) q), leb-true c hi (both-right (leb lo c) (leb c hi) q)))
+    (λ l. absurd (omega (arith, family-past c l)))
+
+pub family-string : (c : ℕ) → familyOf c ≡ 3 → (6 ≤ c) × (c ≤ 8)
+unfolding below implies familyOf
+family-string = family-range 3 6 8 (omega arith) refl
+
+pub family-address : (c : ℕ) → familyOf c ≡ 4 → (9 ≤ c) × (c ≤ 10)
+unfolding below implies familyOf
+family-address = family-range 4 9 10 (omega arith) refl
+
+-- a family and a width make a type
+pub same-type : (c d : ℕ) → c ≤ 12 → d ≤ 12 → familyOf c ≡ familyOf d → widthOf c ≡ widthOf d → c ≡ d
+unfolding below implies familyOf widthOf
+same-type c d h l e f =
+    eqb-true c d
+    (implied (both (eqb (familyOf c) (familyOf d)) (eqb (widthOf c) (widthOf d))) (eqb c d)
+    (each-below (pair c) 13 (each-below (λ a. below (pair a) 13) 13 refl c (omega arith)) d (omega arith))
+    (both-yes _ _ (eq-eqb _ _ e) (eq-eqb _ _ f)))
+  where
+    pair : ℕ → ℕ → Bool
+    pair a b = implies (both (eqb (familyOf a) (familyOf b)) (eqb (widthOf a) (widthOf b))) (eqb a b)
+
+-- the bytes that a kind of value takes, by kind
+abbrev pub kindWidths : List ℕ
+kindWidths = 1 ∷ 2 ∷ 4 ∷ 1 ∷ 4 ∷ 8 ∷ []
+
+pub kind-width : (c : ℕ) → 0 < c → c ≤ 12 → widthOf c ≡ getD kindWidths (kindOf c) 0
+unfolding below implies widthOf kindOf
+kind-width c h l = eqb-true _ _ (by-codes (λ d. leb 1 d) (λ d. eqb (widthOf d) (getD kindWidths (kindOf d) 0)) refl c l (le-leb 1 c h))

@@ -18,7 +18,7 @@ use Rattle.spec_sheet.specs.Sheet.{noInfoRows, infoRows, hasName, findNa
 use Rattle.spec_sheet.specs.Sheet.SheetRead.{sheet}
 use Rattle.spec_sheet.proofs.NameLaws.{find-cons-here, find-cons-next}
 use Rattle.spec_sheet.proofs.TakenLaws.{Follows, Taken, start, more, sheet-taken}
-use Rattle.spec_sheet.proofs.RowLaws.{more-same, more-other, gaps-from, info-rows-past}
+use Rattle.spec_sheet.proofs.RowLaws.{OpRows, more-same, more-other, gaps-from, info-rows-past, sheet-named}
 
 -- the name that a row of the table says
 abbrev pub rowName : List ℕ → List ℕ → List ℕ
@@ -117,6 +117,12 @@ module _ (s name : List ℕ) where
     pub found-named : (k : ℕ) → findName s name 0 (take n rows) ≡ found k → hasName s name (getD rows k []) ≡ true
     found-named k e = rw (in-front k (found-below k e)) at (found-front k e .named)
 
+    pub found-size : (k : ℕ) → findName s name 0 (take n rows) ≡ found k → 0 < getD (getD rows k []) 3 0
+    found-size k e = has-size s name (getD rows k []) (found-named k e)
+
+    pub found-bytes : (k : ℕ) → findName s name 0 (take n rows) ≡ found k → rowName s (getD rows k []) ≡ name
+    found-bytes k e = has-bytes s name (getD rows k []) (found-named k e)
+
     pub found-first : (k : ℕ) → findName s name 0 (take n rows) ≡ found k → (j : ℕ) → j < k → hasName s name (getD rows j []) ≡ false
     found-first k e j h = rw (in-front j (omega (arith, found-below k e))) at (found-front k e .first j h)
 
@@ -191,3 +197,7 @@ own-name s os t n k h l =
 pub sheet-own-name : (s : List ℕ) (at : ℕ) (sh : Sheet) (c : ℕ) → sheetAt s at ≡ sheet sh c → (n k : ℕ) → k < n → 0 < getD (getD (infoRows (sh .opcodes)) k []) 3 0
     → findName s (part s (getD (getD (infoRows (sh .opcodes)) k []) 2 0) (getD (getD (infoRows (sh .opcodes)) k []) 3 0)) 0 (take n (infoRows (sh .opcodes))) ≡ found k
 sheet-own-name s at sh c e = own-name s (sh .opcodes) (sheet-taken s at sh c e)
+
+pub sheet-found : (s : List ℕ) (at : ℕ) (sh : Sheet) (c : ℕ) → sheetAt s at ≡ sheet sh c → (name : List ℕ) (n k : ℕ) → findName s name 0 (take n (infoRows (sh .opcodes))) ≡ found k
+    → OpRows s (sh .opcodes) k
+sheet-found s at sh c e name n k f = sheet-named s at sh c e k (found-size s name n (infoRows (sh .opcodes)) k f)

@@ -8,7 +8,7 @@ use lib.ListN.{length, getD, set, replicate, length-set, length-append, length-r
 use lib.Seq.{getD-set-same, getD-set-other, getD-append-add}
 use Rattle.lists.proofs.Tests.{by-eqb, by-leb}
 use Rattle.spec_sheet.specs.Line.{Op, typeRow, infoRow}
-use Rattle.spec_sheet.specs.Sheet.{fill, noTypeRows, noInfoRows, typeRows, infoRows, Sheet, sheetAt, above}
+use Rattle.spec_sheet.specs.Sheet.{fill, noTypeRows, noInfoRows, typeRows, infoRows, Sheet, sheetAt, above, largest}
 use Rattle.spec_sheet.specs.Sheet.SheetRead.{sheet}
 use Rattle.spec_sheet.proofs.OpLaws.{GoodName, GoodOp, TypeCodes, none, one}
 use Rattle.spec_sheet.proofs.NameTextLaws.{name-least}
@@ -59,6 +59,15 @@ pub record OpRows (s : List ℕ) (os : List Op) (k : ℕ) : Type 0 where
 pub data RowsAt (s : List ℕ) (os : List Op) (k : ℕ) : Type 0 where
   gap : GapRows os k → RowsAt s os k
   op : OpRows s os k → RowsAt s os k
+
+-- one of the two, where the other cannot be
+pub gap-of : {s : List ℕ} {os : List Op} {k : ℕ} → RowsAt s os k → (OpRows s os k → ⊥) → GapRows os k
+gap-of (gap g) n = g
+gap-of (op r) n = absurd (n r)
+
+pub op-of : {s : List ℕ} {os : List Op} {k : ℕ} → RowsAt s os k → (GapRows os k → ⊥) → OpRows s os k
+op-of (gap g) n = absurd (n g)
+op-of (op r) n = r
 
 empty-rows : (k : ℕ) → k < 256 → GapRows [] k
 unfolding fill
@@ -168,11 +177,7 @@ listed-below s os (more seen o t f e) p m =
 
 -- rows from there on are gaps
 pub gaps-from : (s : List ℕ) (os : List Op) → Taken s os → (k : ℕ) → k < 256 → above 0 os ≤ k → GapRows os k
-gaps-from s os t k h l = go (rows-at s os t k h)
-  where
-    go : RowsAt s os k → GapRows os k
-    go (gap g) = g
-    go (op r) = absurd (omega (arith, r .code, listed-below s os t (r .op) (r .listed)))
+gaps-from s os t k h l = gap-of (rows-at s os t k h) (λ r. omega (arith, r .code, listed-below s os t (r .op) (r .listed)))
 
 -- every opcode of the list has its rows
 pub listed-rows : (s : List ℕ) (os : List Op) → Taken s os → (p : Op) → List·Memᴰ p os
@@ -191,16 +196,19 @@ listed-rows s os (more seen o t f e) p m =
     rw (List·Memᴰ·eq-of-singleton w) (r .types, r .info))
     (List·Memᴰ·append-cases seen (rw e at m)))
 
+-- the largest opcode's rows are no gap
+pub last-rows : (s : List ℕ) (os : List Op) → Taken s os → 0 < length os → OpRows s os (largest os)
+last-rows s os start h = absurd (omega arith)
+last-rows s os (more seen o t f e) h =
+    let q : suc (o .code) - 1 ≡ o .code = omega arith in
+    rw (e, above-more 0 seen o, q) (own-rows s seen o (f .good))
+
 -- a row of a name is an opcode's, and its name stands in the text
 pub named-row : (s : List ℕ) (os : List Op) → Taken s os → (k : ℕ) → 0 < getD (getD (infoRows os) k []) 3 0 → OpRows s os k
-named-row s os t k h = by-leb 256 k past (λ l. go (rows-at s os t k l))
-  where
-    past : 256 ≤ k → OpRows s os k
-    past l = absurd (omega (arith, ap (λ (r : List ℕ). getD r 3 0) (info-rows-past os k l)))
-
-    go : RowsAt s os k → OpRows s os k
-    go (gap g) = absurd (omega (arith, ap (λ (r : List ℕ). getD r 3 0) (g .info)))
-    go (op r) = r
+named-row s os t k h =
+    by-leb 256 k
+    (λ l. absurd (omega (arith, ap (λ (r : List ℕ). getD r 3 0) (info-rows-past os k l))))
+    (λ l. op-of (rows-at s os t k l) (λ g. omega (arith, ap (λ (r : List ℕ). getD r 3 0) (g .info))))
 
 pub row-name : (s : List ℕ) (os : List Op) (k : ℕ) → OpRows s os k → GoodName s (getD (getD (infoRows os) k []) 2 0) (getD (getD (infoRows os) k []) 3 0)
 unfolding infoRow
@@ -208,6 +216,10 @@ row-name s os k r = rw (r .info) (r .good .name)
 
 pub row-named : (s : List ℕ) (os : List Op) (k : ℕ) → OpRows s os k → 0 < getD (getD (infoRows os) k []) 3 0
 row-named s os k r = name-least s _ _ (row-name s os k r)
+
+-- a row without one is a gap's
+pub unnamed-row : (s : List ℕ) (os : List Op) → Taken s os → (k : ℕ) → k < 256 → getD (getD (infoRows os) k []) 3 0 ≡ 0 → GapRows os k
+unnamed-row s os t k h e = gap-of (rows-at s os t k h) (λ r. omega (arith, row-named s os k r))
 
 -- the same of a sheet that was read
 module _ (s : List ℕ) (at : ℕ) (sh : Sheet) (c : ℕ) (e : sheetAt s at ≡ sheet sh c) where
@@ -223,6 +235,14 @@ module _ (s : List ℕ) (at : ℕ) (sh : Sheet) (c : ℕ) (e : sheetAt s at ≡ 
 
   pub sheet-type-length : (k : ℕ) → k < 256 → length (getD (typeRows (sh .opcodes)) k []) ≡ 8
   sheet-type-length k h = types-length _ _ (sheet-types k h)
+
+  pub sheet-info-length : (k : ℕ) → k < 256 → length (getD (infoRows (sh .opcodes)) k []) ≡ 4
+  unfolding infoRow
+  sheet-info-length k h = go (sheet-rows k h)
+    where
+      go : RowsAt s (sh .opcodes) k → length (getD (infoRows (sh .opcodes)) k []) ≡ 4
+      go (gap g) = rw (g .info)
+      go (op r) = rw (r .info)
 
   -- at any place: a code is at most 12, a count at most 8, a jump mark at most 1
   pub sheet-code-most : (k i : ℕ) → getD (getD (typeRows (sh .opcodes)) k []) i 0 ≤ 12
@@ -245,7 +265,7 @@ module _ (s : List ℕ) (at : ℕ) (sh : Sheet) (c : ℕ) (e : sheetAt s at ≡ 
       go (gap g) = rw (g .info) (omega arith)
       go (op r) = rw (r .info) (omega (arith, r .good .jump))
 
-  -- one more than the largest opcode is 1 to 256, every opcode is below it, and rows from there on are gaps
+  -- one more than the largest opcode is 1 to 256, every opcode is below it, rows from there on are gaps, and the last row below it is none
   pub sheet-above-least : 1 ≤ above 0 (sh .opcodes)
   sheet-above-least = above-some s (sh .opcodes) taken (sheet-some s at sh c e)
 
@@ -258,8 +278,21 @@ module _ (s : List ℕ) (at : ℕ) (sh : Sheet) (c : ℕ) (e : sheetAt s at ≡ 
   pub sheet-gaps : (k : ℕ) → k < 256 → above 0 (sh .opcodes) ≤ k → GapRows (sh .opcodes) k
   sheet-gaps = gaps-from s (sh .opcodes) taken
 
-  -- a row with a name is below it
+  pub sheet-largest : OpRows s (sh .opcodes) (largest (sh .opcodes))
+  sheet-largest = last-rows s (sh .opcodes) taken (sheet-some s at sh c e)
+
+  -- a row with a name is an opcode's and below it, and one without is a gap's
+  pub sheet-named : (k : ℕ) → 0 < getD (getD (infoRows (sh .opcodes)) k []) 3 0 → OpRows s (sh .opcodes) k
+  sheet-named = named-row s (sh .opcodes) taken
+
+  pub sheet-name : (k : ℕ) → 0 < getD (getD (infoRows (sh .opcodes)) k []) 3 0
+      → GoodName s (getD (getD (infoRows (sh .opcodes)) k []) 2 0) (getD (getD (infoRows (sh .opcodes)) k []) 3 0)
+  sheet-name k h = row-name s (sh .opcodes) k (sheet-named k h)
+
+  pub sheet-unnamed : (k : ℕ) → k < 256 → getD (getD (infoRows (sh .opcodes)) k []) 3 0 ≡ 0 → GapRows (sh .opcodes) k
+  sheet-unnamed = unnamed-row s (sh .opcodes) taken
+
   pub sheet-named-below : (k : ℕ) → 0 < getD (getD (infoRows (sh .opcodes)) k []) 3 0 → k < above 0 (sh .opcodes)
   sheet-named-below k h =
-      let r = named-row s (sh .opcodes) taken k h in
+      let r = sheet-named k h in
       omega (arith, r .code, sheet-listed-below (r .op) (r .listed))

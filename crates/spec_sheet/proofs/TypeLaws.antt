@@ -57,6 +57,10 @@ unfolding implies
 implied true b e h = e
 implied false b e h = true-not-false false h refl
 
+-- a number that lies in a range
+pub within-range : (lo hi n : ℕ) → within lo hi n ≡ true → (lo ≤ n) × (n ≤ hi)
+within-range lo hi n e = (leb-true lo n (both-left (leb lo n) (leb n hi) e), leb-true n hi (both-right (leb lo n) (leb n hi) e))
+
 -- what one test of a code says of another, over all codes
 pub by-codes : (p q : ℕ → Bool) → below (λ c. implies (p c) (q c)) 13 ≡ true → (c : ℕ) → c ≤ 12 → p c ≡ true → q c ≡ true
 by-codes p q e c h = implied (p c) (q c) (each-below (λ d. implies (p d) (q d)) 13 e c (omega arith))
@@ -107,8 +111,7 @@ family-past c h = let z : length families ≤ c = omega arith in List·getD-eq-d
 family-range : (f lo hi : ℕ) → 0 < f → below (λ c. implies (eqb (familyOf c) f) (within lo hi c)) 13 ≡ true → (c : ℕ) → familyOf c ≡ f → (lo ≤ c) × (c ≤ hi)
 family-range f lo hi h e c w =
     by-leb c 12
-    (λ l. let q = by-codes (λ d. eqb (familyOf d) f) (within lo hi) e c l (eq-eqb (familyOf c) f w) in
-    (leb-true lo c (both-left (leb lo c) (leb c hi) q), leb-true c hi (both-right (leb lo c) (leb c hi) q)))
+    (λ l. within-range lo hi c (by-codes (λ d. eqb (familyOf d) f) (within lo hi) e c l (eq-eqb (familyOf c) f w)))
     (λ l. absurd (omega (arith, family-past c l)))
 
 pub family-string : (c : ℕ) → familyOf c ≡ 3 → (6 ≤ c) × (c ≤ 8)

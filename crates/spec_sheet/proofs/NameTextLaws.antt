@@ -78,13 +78,14 @@ module _ (s : List ℕ) (start size : ℕ) (g : GoodName s start size) where
   first-upper : isUpper (getD s start 0) ≡ true
   first-upper = both-right (not (opens (text "Function") (drop start s))) _ opening
 
-  -- "1 to 48"
+  -- it has at most 48 bytes
   pub name-most : size ≤ 48
   name-most = leb-true size 48 (both-left (leb size 48) _ tests)
 
   start-inside : start < length s
   start-inside = inside s start (λ z. true-not-false (isUpper (getD s start 0)) first-upper (ap isUpper z))
 
+  -- it is not empty
   pub name-least : 1 ≤ size
   name-least =
       let q : run isNameByte (drop start s) ≡ suc (run isNameByte (drop (suc start) s)) =
@@ -99,13 +100,15 @@ module _ (s : List ℕ) (start size : ℕ) (g : GoodName s start size) where
   pub name-bytes : all isNameByte (part s start size) ≡ true
   name-bytes = rw (g .run-is) (run-all-taken isNameByte (drop start s))
 
+  -- the same, byte by byte
   pub name-byte-at : (i : ℕ) → i < size → isNameByte (getD (part s start size) i 0) ≡ true
   name-byte-at i h = all-at isNameByte (part s start size) name-bytes i (omega (arith, name-length))
 
-  -- "open with an upper-case letter, but not with `Function`"
+  -- it opens with an upper-case letter
   pub name-upper : isUpper (getD (part s start size) 0 0) ≡ true
   name-upper = rw (part-at s start size 0 0 (omega (arith, name-least)), add-zero start) first-upper
 
+  -- it does not open with `Function`
   pub name-no-function : opens (text "Function") (part s start size) ≡ false
   name-no-function =
       by-test (opens (text "Function") (part s start size))
@@ -113,7 +116,31 @@ module _ (s : List ℕ) (start size : ℕ) (g : GoodName s start size) where
       (not-true _ (both-left (not (opens (text "Function") (drop start s))) _ opening)))
       (λ e. e)
 
-  -- a gap's name is none
-  pub name-valid : part s start size ≡ text "<invalid>" → ⊥
-  unfolding text
-  name-valid e = true-not-false (isUpper (getD (part s start size) 0 0)) name-upper (ap (λ (l : List ℕ). isUpper (getD l 0 0)) e)
+-- a name by itself, away from the text that it stands in
+pub record NameText (name : List ℕ) : Type 0 where
+  pub bytes : all isNameByte name ≡ true
+  pub least : 1 ≤ length name
+  pub most : length name ≤ 48
+  pub upper : isUpper (getD name 0 0) ≡ true
+  pub no-function : opens (text "Function") name ≡ false
+
+-- a name that stands in a text is one
+pub name-text : (s : List ℕ) (start size : ℕ) → GoodName s start size → NameText (part s start size)
+name-text s start size g =
+    let e = name-length s start size g in
+    record {
+      bytes = name-bytes s start size g;
+      least = omega (arith, name-least s start size g);
+      most = omega (arith, name-most s start size g);
+      upper = name-upper s start size g;
+      no-function = name-no-function s start size g;
+    }
+
+-- "<invalid>", which is written for a gap, is no name
+pub invalid-no-name : NameText (text "<invalid>") → ⊥
+unfolding text
+invalid-no-name n = true-not-false false (n .upper) refl
+
+-- so no name is that
+pub name-not-invalid : (name : List ℕ) → NameText name → name ≡ text "<invalid>" → ⊥
+name-not-invalid name n e = invalid-no-name (rw e at n)

@@ -10,6 +10,7 @@ use lib.ListN.{length, take, getD, length-take, List·getD-eq-default}
 use lib.Seq.{getD-take}
 use borrow.Author.Tests.{ltb-true, lt-ltb, le-ltb}
 use Rattle.lists.specs.Scan.{same, part}
+use Rattle.lists.specs.Found.{Found}
 use Rattle.lists.specs.Found.Found.{found, missing}
 use Rattle.lists.proofs.Tests.{both-left, both-right, both-yes, both-no-left, by-test, by-leb, by-eqb, true-not-false}
 use Rattle.lists.proofs.Scans.{same-refl, same-eq}
@@ -18,31 +19,36 @@ use Rattle.spec_sheet.specs.Sheet.{noInfoRows, infoRows, hasName, findNa
 use Rattle.spec_sheet.specs.Sheet.SheetRead.{sheet}
 use Rattle.spec_sheet.proofs.NameLaws.{find-cons-here, find-cons-next}
 use Rattle.spec_sheet.proofs.TakenLaws.{Follows, Taken, start, more, sheet-taken}
-use Rattle.spec_sheet.proofs.RowLaws.{OpRows, more-same, more-other, gaps-from, info-rows-past, sheet-named}
+use Rattle.spec_sheet.proofs.RowLaws.{OpRows, more-same, more-other, gaps-from, info-rows-past, sheet-named, sheet-name}
+use Rattle.spec_sheet.proofs.NameTextLaws.{NameText, name-text}
 
 -- the name that a row of the table says
 abbrev pub rowName : List ℕ → List ℕ → List ℕ
 rowName s row = part s (getD row 2 0) (getD row 3 0)
 
--- a row has a name where its length is not 0 and its bytes are those
+-- whether a row has a name
 module _ (s name row : List ℕ) where
+  -- its length is not 0
   pub has-size : hasName s name row ≡ true → 0 < getD row 3 0
   unfolding hasName
   has-size e = ltb-true 0 (getD row 3 0) (both-left (ltb 0 (getD row 3 0)) _ e)
 
+  -- its bytes are the name
   pub has-bytes : hasName s name row ≡ true → rowName s row ≡ name
   unfolding hasName
   has-bytes e = same-eq (rowName s row) name (both-right (ltb 0 (getD row 3 0)) _ e)
 
+  -- a row of no length has none
   pub has-none : getD row 3 0 ≡ 0 → hasName s name row ≡ false
   unfolding hasName
   has-none e = both-no-left (ltb 0 (getD row 3 0)) _ (le-ltb 0 (getD row 3 0) (omega arith))
 
+  -- a row has its own name
   pub has-this : 0 < getD row 3 0 → rowName s row ≡ name → hasName s name row ≡ true
   unfolding hasName
   has-this h e = both-yes (ltb 0 (getD row 3 0)) (same (rowName s row) name) (lt-ltb 0 (getD row 3 0) h) (rw e (same-refl name))
 
--- what a search from k on found: the first row that has the name
+-- row k is the first that has the name
 pub record FirstNamed (s name : List ℕ) (rows : List (List ℕ)) (k : ℕ) : Type 0 where
   pub inside : k < length rows
   pub named : hasName s name (getD rows k []) ≡ true
@@ -111,25 +117,31 @@ module _ (s name : List ℕ) where
     found-front : (k : ℕ) → findName s name 0 (take n rows) ≡ found k → FirstNamed s name (take n rows) k
     found-front k e = rw (sub-zero k) at (found-from (take n rows) 0 k e .1)
 
+    -- what is found is among them
     pub found-below : (k : ℕ) → findName s name 0 (take n rows) ≡ found k → k < n
     found-below k e = omega (arith, found-front k e .inside, length-take n rows)
 
+    -- it has the name
     pub found-named : (k : ℕ) → findName s name 0 (take n rows) ≡ found k → hasName s name (getD rows k []) ≡ true
     found-named k e = rw (in-front k (found-below k e)) at (found-front k e .named)
 
+    -- it is no gap
     pub found-size : (k : ℕ) → findName s name 0 (take n rows) ≡ found k → 0 < getD (getD rows k []) 3 0
     found-size k e = has-size s name (getD rows k []) (found-named k e)
 
+    -- its bytes are the name
     pub found-bytes : (k : ℕ) → findName s name 0 (take n rows) ≡ found k → rowName s (getD rows k []) ≡ name
     found-bytes k e = has-bytes s name (getD rows k []) (found-named k e)
 
+    -- no row before it has the name
     pub found-first : (k : ℕ) → findName s name 0 (take n rows) ≡ found k → (j : ℕ) → j < k → hasName s name (getD rows j []) ≡ false
     found-first k e j h = rw (in-front j (omega (arith, found-below k e))) at (found-front k e .first j h)
 
+    -- where nothing is found no row has the name
     pub missing-none : findName s name 0 (take n rows) ≡ missing → (k : ℕ) → k < n → hasName s name (getD rows k []) ≡ false
     missing-none e k h = rw (in-front k h) at (missing-from (take n rows) 0 e k)
 
-    -- and the other way: the first row with the name is found, and where none has it nothing is
+    -- the first row with the name is found
     pub first-found : (k : ℕ) → k < n → hasName s name (getD rows k []) ≡ true → ((j : ℕ) → j < k → hasName s name (getD rows j []) ≡ false)
         → findName s name 0 (take n rows) ≡ found k
     first-found k h e f =
@@ -140,6 +152,7 @@ module _ (s name : List ℕ) where
         }
         ∙ ap found (omega arith)
 
+    -- where no row has the name nothing is found
     pub none-missing : ((j : ℕ) → j < n → hasName s name (getD rows j []) ≡ false) → findName s name 0 (take n rows) ≡ missing
     none-missing f =
         none-from (take n rows) 0
@@ -194,10 +207,27 @@ own-name s os t n k h l =
     first-found s (rowName s (getD (infoRows os) k [])) n (infoRows os) k h (has-this s _ (getD (infoRows os) k []) l refl) (λ j b. names-rise s os t j k b l)
 
 -- of a sheet that was read
-pub sheet-own-name : (s : List ℕ) (at : ℕ) (sh : Sheet) (c : ℕ) → sheetAt s at ≡ sheet sh c → (n k : ℕ) → k < n → 0 < getD (getD (infoRows (sh .opcodes)) k []) 3 0
-    → findName s (part s (getD (getD (infoRows (sh .opcodes)) k []) 2 0) (getD (getD (infoRows (sh .opcodes)) k []) 3 0)) 0 (take n (infoRows (sh .opcodes))) ≡ found k
-sheet-own-name s at sh c e = own-name s (sh .opcodes) (sheet-taken s at sh c e)
+module _ (s : List ℕ) (at : ℕ) (sh : Sheet) (c : ℕ) (e : sheetAt s at ≡ sheet sh c) where
+  -- an opcode's own name is found at that opcode
+  pub sheet-own-name : (n k : ℕ) → k < n → 0 < getD (getD (infoRows (sh .opcodes)) k []) 3 0
+      → findName s (part s (getD (getD (infoRows (sh .opcodes)) k []) 2 0) (getD (getD (infoRows (sh .opcodes)) k []) 3 0)) 0 (take n (infoRows (sh .opcodes))) ≡ found k
+  sheet-own-name = own-name s (sh .opcodes) (sheet-taken s at sh c e)
 
-pub sheet-found : (s : List ℕ) (at : ℕ) (sh : Sheet) (c : ℕ) → sheetAt s at ≡ sheet sh c → (name : List ℕ) (n k : ℕ) → findName s name 0 (take n (infoRows (sh .opcodes))) ≡ found k
-    → OpRows s (sh .opcodes) k
-sheet-found s at sh c e name n k f = sheet-named s at sh c e k (found-size s name n (infoRows (sh .opcodes)) k f)
+  module _ (name : List ℕ) (n : ℕ) where
+    -- what is found is an opcode of the sheet
+    pub sheet-found : (k : ℕ) → findName s name 0 (take n (infoRows (sh .opcodes))) ≡ found k → OpRows s (sh .opcodes) k
+    sheet-found k f = sheet-named s at sh c e k (found-size s name n (infoRows (sh .opcodes)) k f)
+
+    -- what is found is a name
+    pub sheet-found-text : (k : ℕ) → findName s name 0 (take n (infoRows (sh .opcodes))) ≡ found k → NameText name
+    sheet-found-text k f =
+        rw (found-bytes s name n (infoRows (sh .opcodes)) k f)
+        at (name-text s _ _ (sheet-name s at sh c e k (found-size s name n (infoRows (sh .opcodes)) k f)))
+
+    -- so that what is no name is not found
+    pub sheet-no-name : (NameText name → ⊥) → findName s name 0 (take n (infoRows (sh .opcodes))) ≡ missing
+    sheet-no-name h = go (findName s name 0 (take n (infoRows (sh .opcodes)))) refl
+      where
+        go : (r : Found) → findName s name 0 (take n (infoRows (sh .opcodes))) ≡ r → r ≡ missing
+        go (found k) f = absurd (h (sheet-found-text k f))
+        go missing f = refl

@@ -21,33 +21,38 @@ unfolding fill
 fill-length row rows [] = refl
 fill-length row rows (o ∷ os) = fill-length row (set rows (o .code) (row o)) os ∙ length-set rows (o .code) (row o)
 
--- 256 rows in both tables
+-- 256 rows of types
 pub type-rows-length : (os : List Op) → length (typeRows os) ≡ 256
 type-rows-length os = fill-length typeRow noTypeRows os
 
+-- 256 rows of counts, marks and names
 pub info-rows-length : (os : List Op) → length (infoRows os) ≡ 256
 info-rows-length os = fill-length infoRow noInfoRows os
 
--- no row behind them
+-- no row of types behind them
 pub type-rows-past : (os : List Op) (k : ℕ) → 256 ≤ k → getD (typeRows os) k [] ≡ []
 type-rows-past os k h = List·getD-eq-default (typeRows os) [] (omega (arith, type-rows-length os))
 
+-- nor one of the others
 pub info-rows-past : (os : List Op) (k : ℕ) → 256 ≤ k → getD (infoRows os) k [] ≡ []
 info-rows-past os k h = List·getD-eq-default (infoRows os) [] (omega (arith, info-rows-length os))
 
--- one opcode more: its own row is stored, and every other row is kept
+-- one opcode more
 module _ (row : Op → List ℕ) (rows : List (List ℕ)) (seen : List Op) (o : Op) where
+  -- its own row is stored
   pub more-same : o .code < length rows → getD (fill row rows (seen ++ (o ∷ []))) (o .code) [] ≡ row o
   more-same h = rw (fill-more row rows seen o) (getD-set-same (fill row rows seen) (o .code) (row o) [] (omega (arith, fill-length row rows seen)))
 
+  -- every other row is kept
   pub more-other : (k : ℕ) → (k ≡ o .code → ⊥) → getD (fill row rows (seen ++ (o ∷ []))) k [] ≡ getD (fill row rows seen) k []
   more-other k h = rw (fill-more row rows seen o) (getD-set-other (fill row rows seen) (o .code) k (row o) [] h)
 
--- the two rows of an opcode k: those of a gap, or of an opcode of the sheet
+-- the two rows of an opcode k, where it is a gap
 pub record GapRows (os : List Op) (k : ℕ) : Type 0 where
   pub types : getD (typeRows os) k [] ≡ replicate 8 0
   pub info : getD (infoRows os) k [] ≡ replicate 4 0
 
+-- where it is one of the sheet
 pub record OpRows (s : List ℕ) (os : List Op) (k : ℕ) : Type 0 where
   pub op : Op
   pub listed : List·Memᴰ op os
@@ -56,15 +61,17 @@ pub record OpRows (s : List ℕ) (os : List Op) (k : ℕ) : Type 0 where
   pub types : getD (typeRows os) k [] ≡ typeRow op
   pub info : getD (infoRows os) k [] ≡ infoRow op
 
+-- one or the other
 pub data RowsAt (s : List ℕ) (os : List Op) (k : ℕ) : Type 0 where
   gap : GapRows os k → RowsAt s os k
   op : OpRows s os k → RowsAt s os k
 
--- one of the two, where the other cannot be
+-- a gap, where it is no opcode of the sheet
 pub gap-of : {s : List ℕ} {os : List Op} {k : ℕ} → RowsAt s os k → (OpRows s os k → ⊥) → GapRows os k
 gap-of (gap g) n = g
 gap-of (op r) n = absurd (n r)
 
+-- an opcode of the sheet, where it is no gap
 pub op-of : {s : List ℕ} {os : List Op} {k : ℕ} → RowsAt s os k → (GapRows os k → ⊥) → OpRows s os k
 op-of (gap g) n = absurd (n g)
 op-of (op r) n = r
@@ -117,13 +124,13 @@ op-types : (s : List ℕ) (o : Op) → GoodOp s o → TypesOf (typeRow o) (getD 
 unfolding typeRow infoRow
 op-types s o g = record { codes = o .types; good = g .types; few = g .few; row-is = refl; count-is = refl }
 
+-- every type row is one
 pub row-types : (s : List ℕ) (os : List Op) (k : ℕ) → RowsAt s os k → TypesOf (getD (typeRows os) k []) (getD (getD (infoRows os) k []) 0 0)
 row-types s os k (gap g) =
     same-types (sym (g .types)) (ap (λ (r : List ℕ). getD r 0 0) (sym (g .info)))
     record { codes = []; good = none; few = omega arith; row-is = refl; count-is = refl }
 row-types s os k (op r) = same-types (sym (r .types)) (ap (λ (l : List ℕ). getD l 0 0) (sym (r .info))) (op-types s (r .op) (r .good))
 
--- every code is that of a type, and zeros stand behind
 codes-at : (ts : List ℕ) → TypeCodes ts → (i : ℕ) → i < length ts → (0 < getD ts i 0) × (getD ts i 0 ≤ 12)
 codes-at [] none i h = absurd (omega arith)
 codes-at (c ∷ cs) (one l m t) zero h = (l, m)
@@ -135,17 +142,21 @@ zeros-at (suc n) zero = refl
 zeros-at (suc n) (suc i) = zeros-at n i
 
 module _ (row : List ℕ) (n : ℕ) (t : TypesOf row n) where
+  -- it has eight codes
   pub types-length : length row ≡ 8
   types-length = rw (t .row-is, length-append, length-replicate) (omega (arith, t .few))
 
+  -- a count is at most 8
   pub types-most : n ≤ 8
   types-most = omega (arith, t .count-is, t .few)
 
+  -- below the count stand the codes of types
   pub types-code : (i : ℕ) → i < n → (0 < getD row i 0) × (getD row i 0 ≤ 12)
   types-code i h =
       let l : i < length (t .codes) = omega (arith, t .count-is) in
       rw (t .row-is, List·getD-append (t .codes) (replicate (8 - length (t .codes)) 0) 0 i l) (codes-at (t .codes) (t .good) i l)
 
+  -- from the count on stand zeros
   pub types-end : (i : ℕ) → n ≤ i → getD row i 0 ≡ 0
   types-end i h =
       let e : i ≡ length (t .codes) + (i - length (t .codes)) = omega (arith, t .count-is) in
@@ -154,19 +165,22 @@ module _ (row : List ℕ) (n : ℕ) (t : TypesOf row n) where
       ∙ getD-append-add (t .codes) (replicate (8 - length (t .codes)) 0) (i - length (t .codes)) 0
       ∙ zeros-at (8 - length (t .codes)) (i - length (t .codes))
 
+  -- at any place a code is at most 12
   pub types-small : (i : ℕ) → getD row i 0 ≤ 12
   types-small i = by-leb n i (λ h. omega (arith, types-end i h)) (λ h. types-code i h .1)
 
--- the largest opcode: numbers are below 256, and each is below one more than the last
+-- one more than the largest opcode is at most 256
 pub above-most : (s : List ℕ) (os : List Op) → Taken s os → above 0 os ≤ 256
 unfolding above
 above-most s os start = omega arith
 above-most s os (more seen o t f e) = rw (e, above-more 0 seen o) (omega (arith, f .good .code))
 
+-- it is at least 1 where there is an opcode
 pub above-some : (s : List ℕ) (os : List Op) → Taken s os → 0 < length os → 0 < above 0 os
 above-some s os start h = absurd (omega arith)
 above-some s os (more seen o t f e) h = rw (e, above-more 0 seen o) (omega arith)
 
+-- every opcode is below it
 pub listed-below : (s : List ℕ) (os : List Op) → Taken s os → (p : Op) → List·Memᴰ p os → p .code < above 0 os
 listed-below s os start p m = absurd (List·Memᴰ·not-nil m)
 listed-below s os (more seen o t f e) p m =
@@ -203,21 +217,23 @@ last-rows s os (more seen o t f e) h =
     let q : suc (o .code) - 1 ≡ o .code = omega arith in
     rw (e, above-more 0 seen o, q) (own-rows s seen o (f .good))
 
--- a row of a name is an opcode's, and its name stands in the text
+-- a row with a name is an opcode's
 pub named-row : (s : List ℕ) (os : List Op) → Taken s os → (k : ℕ) → 0 < getD (getD (infoRows os) k []) 3 0 → OpRows s os k
 named-row s os t k h =
     by-leb 256 k
     (λ l. absurd (omega (arith, ap (λ (r : List ℕ). getD r 3 0) (info-rows-past os k l))))
     (λ l. op-of (rows-at s os t k l) (λ g. omega (arith, ap (λ (r : List ℕ). getD r 3 0) (g .info))))
 
+-- the name of an opcode's row is good
 pub row-name : (s : List ℕ) (os : List Op) (k : ℕ) → OpRows s os k → GoodName s (getD (getD (infoRows os) k []) 2 0) (getD (getD (infoRows os) k []) 3 0)
 unfolding infoRow
 row-name s os k r = rw (r .info) (r .good .name)
 
+-- so it is not empty
 pub row-named : (s : List ℕ) (os : List Op) (k : ℕ) → OpRows s os k → 0 < getD (getD (infoRows os) k []) 3 0
 row-named s os k r = name-least s _ _ (row-name s os k r)
 
--- a row without one is a gap's
+-- a row without a name is a gap's
 pub unnamed-row : (s : List ℕ) (os : List Op) → Taken s os → (k : ℕ) → k < 256 → getD (getD (infoRows os) k []) 3 0 ≡ 0 → GapRows os k
 unnamed-row s os t k h e = gap-of (rows-at s os t k h) (λ r. omega (arith, row-named s os k r))
 
@@ -226,16 +242,19 @@ module _ (s : List ℕ) (at : ℕ) (sh : Sheet) (c : ℕ) (e : sheetAt s at ≡ 
   taken : Taken s (sh .opcodes)
   taken = sheet-taken s at sh c e
 
+  -- every opcode's rows
   pub sheet-rows : (k : ℕ) → k < 256 → RowsAt s (sh .opcodes) k
   sheet-rows = rows-at s (sh .opcodes) taken
 
-  -- the row of types, its count, and that the row has eight codes
+  -- the row of types and its count
   pub sheet-types : (k : ℕ) → k < 256 → TypesOf (getD (typeRows (sh .opcodes)) k []) (getD (getD (infoRows (sh .opcodes)) k []) 0 0)
   sheet-types k h = row-types s (sh .opcodes) k (sheet-rows k h)
 
+  -- a type row has eight codes
   pub sheet-type-length : (k : ℕ) → k < 256 → length (getD (typeRows (sh .opcodes)) k []) ≡ 8
   sheet-type-length k h = types-length _ _ (sheet-types k h)
 
+  -- the row beside it has four numbers
   pub sheet-info-length : (k : ℕ) → k < 256 → length (getD (infoRows (sh .opcodes)) k []) ≡ 4
   unfolding infoRow
   sheet-info-length k h = go (sheet-rows k h)
@@ -244,19 +263,21 @@ module _ (s : List ℕ) (at : ℕ) (sh : Sheet) (c : ℕ) (e : sheetAt s at ≡ 
       go (gap g) = rw (g .info)
       go (op r) = rw (r .info)
 
-  -- at any place: a code is at most 12, a count at most 8, a jump mark at most 1
+  -- at any place a code is at most 12
   pub sheet-code-most : (k i : ℕ) → getD (getD (typeRows (sh .opcodes)) k []) i 0 ≤ 12
   sheet-code-most k i =
       by-leb 256 k
       (λ h. rw (type-rows-past (sh .opcodes) k h) (omega arith))
       (λ h. types-small _ _ (sheet-types k h) i)
 
+  -- at any place a count is at most 8
   pub sheet-count-most : (k : ℕ) → getD (getD (infoRows (sh .opcodes)) k []) 0 0 ≤ 8
   sheet-count-most k =
       by-leb 256 k
       (λ h. rw (info-rows-past (sh .opcodes) k h) (omega arith))
       (λ h. types-most _ _ (sheet-types k h))
 
+  -- at any place a jump mark is at most 1
   pub sheet-jump-most : (k : ℕ) → getD (getD (infoRows (sh .opcodes)) k []) 1 0 ≤ 1
   unfolding infoRow
   sheet-jump-most k = by-leb 256 k (λ h. rw (info-rows-past (sh .opcodes) k h) (omega arith)) (λ h. go (sheet-rows k h))
@@ -265,33 +286,40 @@ module _ (s : List ℕ) (at : ℕ) (sh : Sheet) (c : ℕ) (e : sheetAt s at ≡ 
       go (gap g) = rw (g .info) (omega arith)
       go (op r) = rw (r .info) (omega (arith, r .good .jump))
 
-  -- one more than the largest opcode is 1 to 256, every opcode is below it, rows from there on are gaps, and the last row below it is none
+  -- one more than the largest opcode is at least 1
   pub sheet-above-least : 1 ≤ above 0 (sh .opcodes)
   sheet-above-least = above-some s (sh .opcodes) taken (sheet-some s at sh c e)
 
+  -- and at most 256
   pub sheet-above-most : above 0 (sh .opcodes) ≤ 256
   sheet-above-most = above-most s (sh .opcodes) taken
 
+  -- every opcode is below it
   pub sheet-listed-below : (o : Op) → List·Memᴰ o (sh .opcodes) → o .code < above 0 (sh .opcodes)
   sheet-listed-below = listed-below s (sh .opcodes) taken
 
+  -- rows from there on are gaps
   pub sheet-gaps : (k : ℕ) → k < 256 → above 0 (sh .opcodes) ≤ k → GapRows (sh .opcodes) k
   sheet-gaps = gaps-from s (sh .opcodes) taken
 
+  -- the largest opcode's rows are no gap
   pub sheet-largest : OpRows s (sh .opcodes) (largest (sh .opcodes))
   sheet-largest = last-rows s (sh .opcodes) taken (sheet-some s at sh c e)
 
-  -- a row with a name is an opcode's and below it, and one without is a gap's
+  -- a row with a name is an opcode's
   pub sheet-named : (k : ℕ) → 0 < getD (getD (infoRows (sh .opcodes)) k []) 3 0 → OpRows s (sh .opcodes) k
   sheet-named = named-row s (sh .opcodes) taken
 
+  -- its name stands in the text
   pub sheet-name : (k : ℕ) → 0 < getD (getD (infoRows (sh .opcodes)) k []) 3 0
       → GoodName s (getD (getD (infoRows (sh .opcodes)) k []) 2 0) (getD (getD (infoRows (sh .opcodes)) k []) 3 0)
   sheet-name k h = row-name s (sh .opcodes) k (sheet-named k h)
 
+  -- a row without a name is a gap's
   pub sheet-unnamed : (k : ℕ) → k < 256 → getD (getD (infoRows (sh .opcodes)) k []) 3 0 ≡ 0 → GapRows (sh .opcodes) k
   sheet-unnamed = unnamed-row s (sh .opcodes) taken
 
+  -- a row with a name is at most the largest opcode's
   pub sheet-named-below : (k : ℕ) → 0 < getD (getD (infoRows (sh .opcodes)) k []) 3 0 → k < above 0 (sh .opcodes)
   sheet-named-below k h =
       let r = sheet-named k h in

@@ -41,6 +41,7 @@ unfolding isMissing
 missing-is (found k) e = true-not-false false e refl
 missing-is missing e = refl
 
+-- and its name is in no row before
 pub follow-name : (s : List ℕ) (least : ℕ) (rows : List (List ℕ)) (code : ℕ) (name : List ℕ) → mayFollow s least rows code name ≡ true
     → findName s name 0 (take least rows) ≡ missing
 unfolding mayFollow
@@ -57,6 +58,7 @@ accepted-follows s least rows (line p a) o b e = go (mayFollow s least rows (p .
     go false h q = absurd (let z : _≡_ {A = ℕ} 0 1 = cc q in omega arith)
 accepted-follows s least rows noLine o b e = absurd (let z : _≡_ {A = ℕ} 0 1 = cc e in omega arith)
 
+-- so it is good, rises and is new
 pub accepted-taken : (s : List ℕ) (at : ℕ) (seen : List Op) (o : Op) (b : ℕ) → accepted s (above 0 seen) (infoRows seen) (lineAt s at) ≡ line o b → Follows s seen o
 accepted-taken s at seen o b e =
     let h = accepted-follows s (above 0 seen) (infoRows seen) (lineAt s at) o b e in
@@ -81,6 +83,7 @@ ops-taken (suc n) s at least seen os b l t e =
         (more seen o t (accepted-taken s at seen o c (rw l at p)) refl) q
     go ih (stopped p q) = absurd (let z : _≡_ {A = ℕ} 0 1 = cc q in omega arith)
 
+-- so is every opcode of a sheet that was read
 pub sheet-taken : (s : List ℕ) (at : ℕ) (sh : Sheet) (c : ℕ) → sheetAt s at ≡ sheet sh c → Taken s (sh .opcodes)
 unfolding above
 sheet-taken s at sh c e =

@@ -40,6 +40,7 @@ unfoldable pub below : (ℕ → Bool) → ℕ → Bool
 below p zero = true
 below p (suc n) = both (p n) (below p n)
 
+-- each number passes it
 pub each-below : (p : ℕ → Bool) (n : ℕ) → below p n ≡ true → (c : ℕ) → c < n → p c ≡ true
 unfolding below
 each-below p zero e c h = absurd (omega arith)
@@ -52,6 +53,7 @@ each-below p (suc n) e c h =
 unfoldable pub implies : Bool → Bool → Bool
 implies a b = either (not a) b
 
+-- the second holds where the first does
 pub implied : (a b : Bool) → implies a b ≡ true → a ≡ true → b ≡ true
 unfolding implies
 implied true b e h = e
@@ -65,20 +67,22 @@ within-range lo hi n e = (leb-true lo n (both-left (leb lo n) (leb n hi) e), leb
 pub by-codes : (p q : ℕ → Bool) → below (λ c. implies (p c) (q c)) 13 ≡ true → (c : ℕ) → c ≤ 12 → p c ≡ true → q c ≡ true
 by-codes p q e c h = implied (p c) (q c) (each-below (λ d. implies (p d) (q d)) 13 e c (omega arith))
 
--- a type that is one takes bytes, and has a family
+-- a type that is one takes bytes
 pub width-some : (c : ℕ) → 0 < c → c ≤ 12 → 1 ≤ widthOf c
 unfolding below implies widthOf
 width-some c h l = leb-true 1 (widthOf c) (by-codes (λ d. leb 1 d) (λ d. leb 1 (widthOf d)) refl c l (le-leb 1 c h))
 
+-- a type that is one has a family
 pub family-some : (c : ℕ) → 0 < c → c ≤ 12 → 1 ≤ familyOf c
 unfolding below implies familyOf
 family-some c h l = leb-true 1 (familyOf c) (by-codes (λ d. leb 1 d) (λ d. leb 1 (familyOf d)) refl c l (le-leb 1 c h))
 
--- the code of no type takes none and is in none
+-- the code of no type takes none
 pub width-none : widthOf 0 ≡ 0
 unfolding widthOf
 width-none = refl
 
+-- the code of no type is in no family
 pub family-none : familyOf 0 ≡ 0
 unfolding familyOf
 family-none = refl
@@ -90,14 +94,17 @@ table-most l n most h e c =
     (λ q. let z : length l ≤ c = omega arith in rw (List·getD-eq-default l 0 z) (omega arith))
     (λ q. leb-true _ _ (each-below (λ d. leb (getD l d 0) most) n e c q))
 
+-- a width is at most 8
 pub width-most : (c : ℕ) → widthOf c ≤ 8
 unfolding below widthOf
 width-most c = table-most widths 13 8 (omega arith) refl c
 
+-- a family is at most 6
 pub family-most : (c : ℕ) → familyOf c ≤ 6
 unfolding below familyOf
 family-most c = table-most families 13 6 (omega arith) refl c
 
+-- a kind is at most 5
 pub kind-most : (c : ℕ) → kindOf c ≤ 5
 unfolding below kindOf
 kind-most c = table-most kinds 13 5 (omega arith) refl c
@@ -114,10 +121,12 @@ family-range f lo hi h e c w =
     (λ l. within-range lo hi c (by-codes (λ d. eqb (familyOf d) f) (within lo hi) e c l (eq-eqb (familyOf c) f w)))
     (λ l. absurd (omega (arith, family-past c l)))
 
+-- the strings are UInt8S, UInt16S and UInt32S
 pub family-string : (c : ℕ) → familyOf c ≡ 3 → (6 ≤ c) × (c ≤ 8)
 unfolding below implies familyOf
 family-string = family-range 3 6 8 (omega arith) refl
 
+-- the addresses are Addr8 and Addr32
 pub family-address : (c : ℕ) → familyOf c ≡ 4 → (9 ≤ c) × (c ≤ 10)
 unfolding below implies familyOf
 family-address = family-range 4 9 10 (omega arith) refl
@@ -138,6 +147,7 @@ same-type c d h l e f =
 abbrev pub kindWidths : List ℕ
 kindWidths = 1 ∷ 2 ∷ 4 ∷ 1 ∷ 4 ∷ 8 ∷ []
 
+-- a type takes the bytes of its kind
 pub kind-width : (c : ℕ) → 0 < c → c ≤ 12 → widthOf c ≡ getD kindWidths (kindOf c) 0
 unfolding below implies widthOf kindOf
 kind-width c h l = eqb-true _ _ (by-codes (λ d. leb 1 d) (λ d. eqb (widthOf d) (getD kindWidths (kindOf d) 0)) refl c l (le-leb 1 c h))

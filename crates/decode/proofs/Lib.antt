@@ -1,2 +1,4 @@
 pub mod RowLaws
 pub mod PairLaws
+pub mod StoreLaws
+pub mod BodyLoop

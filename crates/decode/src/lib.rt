@@ -1,3 +1,4 @@
 // Decoding a body into records: decode_function_instructions of instructions.rs.
+pub mod instructions;
 pub mod record;
 pub mod words;

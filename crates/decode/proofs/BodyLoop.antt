@@ -123,10 +123,11 @@ not-cut d at rs e f = absurd (let z : _≡_ {A = ℕ} 0 1 = cc in omega arith)
 
 -- what is written at the end
 pub all-written : (types : List (List ℕ)) (last : ℕ) (s out₀ out : List ℕ) (n at : ℕ) (g : Going types last s out₀ out n at) → length s ≤ at
-    → (rs : List (List ℕ)) → decodeBody types last s ≡ decoded rs → 20 * length rs ≤ length out₀ → out ≡ join rs ++ drop (20 * length rs) out₀
-all-written types last s out₀ out n at g h rs e f = same-list (g .seen) n (g .number) (cc (sym (ended types last s out₀ out n at g h) ∙ e)) (g .filled)
+    → (rs : List (List ℕ)) → decodeBody types last s ≡ decoded rs → (length (join rs) ≡ 20 * length rs) × (20 * length rs ≤ length out₀ → out ≡ join rs ++ drop (20 * length rs) out₀)
+all-written types last s out₀ out n at g h rs e = same-list (g .seen) n (g .number) (cc (sym (ended types last s out₀ out n at g h) ∙ e)) (g .words) (g .filled)
   where
-    same-list : (seen : List (List ℕ)) (k : ℕ) → length seen ≡ k → seen ≡ rs → (20 * k ≤ length out₀ → out ≡ join seen ++ drop (20 * k) out₀) → out ≡ join rs ++ drop (20 * length rs) out₀
-    same-list seen k p q w =
+    same-list : (seen : List (List ℕ)) (k : ℕ) → length seen ≡ k → seen ≡ rs → length (join seen) ≡ 20 * k → (20 * k ≤ length out₀ → out ≡ join seen ++ drop (20 * k) out₀)
+        → (length (join rs) ≡ 20 * length rs) × (20 * length rs ≤ length out₀ → out ≡ join rs ++ drop (20 * length rs) out₀)
+    same-list seen k p q l w =
         let m : k ≡ length rs = sym p ∙ ap length q in
-        rw (sym m, sym q) (w (omega arith))
+        rw (sym m, sym q) (l, w)

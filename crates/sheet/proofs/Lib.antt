@@ -4,3 +4,4 @@ pub mod LineLaws
 pub mod StoreLaws
 pub mod OpsLoop
 pub mod SheetAnswers
+pub mod UnderSheet

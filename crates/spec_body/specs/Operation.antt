@@ -51,12 +51,15 @@ decode text body =
     let rest = underSheet (sheetOf text) λ types last. decodeOutcome (decodeBody types last body) in
     pick (ltb bodyLimit (length body)) (refusedWith 18 0 0) rest
 
--- a function: 1, "20 and then 18 of its body", then decoding
-unfoldable pub decodeFunction : List ℕ → List ℕ → List ℕ → ℕ → ℕ → Outcome
-decodeFunction text functions area base id =
-    underSheet (sheetOf text) λ types last.
+-- a function: "20 and then 18 of its body", then decoding
+unfoldable pub functionOutcome : List (List ℕ) → ℕ → List ℕ → List ℕ → ℕ → ℕ → Outcome
+functionOutcome types last functions area base id =
     let body = decodeOutcome (decodeBody types last (bodyOf functions area base id)) in
     pick (inArea functions area base id) (pick (ltb bodyLimit (sizeOf functions id)) (refusedWith 18 0 0) body) (refusedWith 20 id 0)
+
+-- 1 comes first
+unfoldable pub decodeFunction : List ℕ → List ℕ → List ℕ → ℕ → ℕ → Outcome
+decodeFunction text functions area base id = underSheet (sheetOf text) λ types last. functionOutcome types last functions area base id
 
 -- encoding: by record, "then 18, 19"; the length counts bytes
 unfoldable pub encodeOutcome : Encoded → Outcome

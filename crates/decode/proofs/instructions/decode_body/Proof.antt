@@ -32,7 +32,7 @@ unfolding bodyOf
 returns c =
     let l = c .before .before .before .loop in
     let e = stopped _ _ _ _ _ _ _ (l .inv) (c .before .before .loop-test .taken) (c .if1 .taken) in
-    (sym (ap bodyOf e), (λ rs f h. not-beyond _ _ rs e f))
+    (sym (ap bodyOf e), (λ rs f. not-beyond _ _ rs e f))
 
 mul-row : tie.Need-mul-row Inv-loop μ-loop
 mul-row c = omega (arith, c .before .shared-slice-known2 .given (c .before .before .before .loop .at))
@@ -54,7 +54,7 @@ unfolding bodyOf
 returns-2 c =
     let l = c .before .before .before .before .before .before .loop in
     let e = broken _ _ _ _ _ _ _ (l .inv) (c .before .before .before .before .before .loop-test .taken) (c .before .before .before .if1 .left) _ (c .before .instruction-length .ensures .0) (c .if2 .taken) in
-    (sym (ap bodyOf e), (λ rs f h. not-cut _ _ rs e f))
+    (sym (ap bodyOf e), (λ rs f. not-cut _ _ rs e f))
 
 store-record-requires : tie.Need-store-record-requires Inv-loop μ-loop
 store-record-requires c κs = search needs
@@ -82,7 +82,7 @@ unfolding bodyOf
 returns-3 c =
     let l = c .before .loop in
     let e = ended _ _ _ _ _ _ _ (l .inv) (c .loop-test .left) in
-    (ap Records (sym (l .inv .number)) ∙ sym (ap bodyOf e), (λ rs f h. all-written _ _ _ _ _ _ _ (l .inv) (c .loop-test .left) rs f h))
+    (ap Records (sym (l .inv .number)) ∙ sym (ap bodyOf e), (λ rs f. all-written _ _ _ _ _ _ _ (l .inv) (c .loop-test .left) rs f))
 
 pub decode-body-spec : {M : Type 1} → statement M
 decode-body-spec =

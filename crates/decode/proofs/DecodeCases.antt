@@ -1,0 +1,80 @@
+-- The operations of decoding, case by case. Assumes nothing.
+use mathlib.Core.Path.{_≡_, refl, ap, sym, _∙_}
+use mathlib.Core.Bool.{Bool, true, false}
+use mathlib.Core.List.{List}
+use Prim.Native.Nat.{ℕ, _+_, _-_, _*_, _/_, _≤_, _<_}
+use native.Mathlib.Omega.{arith}
+use lib.Dec.{leb, ltb}
+use Rattle.lists.specs.Choice.{both}
+use lib.ListN.{length}
+use Rattle.lists.proofs.Tests.{both-left, both-right}
+use borrow.Author.Tests.{lt-ltb, le-ltb, le-leb, lt-leb, ltb-true, leb-true}
+use Rattle.lists.specs.Scan.{part}
+use Rattle.spec_sheet.specs.Sheet.{SheetRead, sheetOf, typeRows, largest, above}
+use Rattle.spec_sheet.specs.Sheet.SheetRead.{sheet, malformed}
+use Rattle.sheet.specs.Sheets.{typesIn}
+use Rattle.sheet.proofs.UnderSheet.{ReadAs}
+use Rattle.spec_body.specs.Decode.{decodeBody}
+use Rattle.spec_body.specs.Function.{inArea, offsetOf, sizeOf, functionCount, bodyOf}
+use Rattle.spec_body.specs.Operation.{Outcome, decodeOutcome, underSheet, functionOutcome, decode, decodeFunction}
+use Rattle.spec_body.specs.Operation.Outcome.{result, refusedWith}
+
+-- under a sheet that was read, and under none
+pub under-read : (x : SheetRead) (m : ℕ) (r : ReadAs x m) (then : List (List ℕ) → ℕ → Outcome) → underSheet x then ≡ then (typesIn x) (m - 1)
+unfolding underSheet typesIn
+under-read x m r then = rw (r .is-sheet, sym (r .above-is))
+
+pub under-none : (x : SheetRead) (k : ℕ) (then : List (List ℕ) → ℕ → Outcome) → x ≡ malformed k → underSheet x then ≡ refusedWith 1 k 0
+unfolding underSheet
+under-none x k then e = rw e
+
+module _ (text body : List ℕ) where
+  pub decode-large : 65536 < length body → decode text body ≡ refusedWith 18 0 0
+  unfolding decode
+  decode-large h = rw (lt-ltb 65536 (length body) h)
+
+  pub decode-small : length body ≤ 65536 → decode text body ≡ underSheet (sheetOf text) λ types last. decodeOutcome (decodeBody types last body)
+  unfolding decode
+  decode-small h = rw (le-ltb 65536 (length body) h)
+
+module _ (functions area : List ℕ) (base id : ℕ) where
+  -- 20, each way
+  pub no-such : functionCount functions ≤ id → inArea functions area base id ≡ false
+  unfolding inArea
+  no-such h = rw (le-ltb id (functionCount functions) h)
+
+  pub below-base : id < functionCount functions → offsetOf functions id < base → inArea functions area base id ≡ false
+  unfolding inArea
+  below-base h k = rw (lt-ltb id (functionCount functions) h, lt-leb base (offsetOf functions id) k)
+
+  pub by-end : (n : ℕ) → n ≡ offsetOf functions id - base + sizeOf functions id → id < functionCount functions → base ≤ offsetOf functions id → leb n (length area) ≡ inArea functions area base id
+  unfolding inArea
+  by-end n e h k = rw (e, lt-ltb id (functionCount functions) h, le-leb base (offsetOf functions id) k)
+
+  pub inside-count : inArea functions area base id ≡ true → id < functionCount functions
+  unfolding inArea
+  inside-count e = ltb-true id (functionCount functions) (both-left _ _ e)
+
+  pub inside-base : inArea functions area base id ≡ true → base ≤ offsetOf functions id
+  unfolding inArea
+  inside-base e =
+      let rest : both (leb base (offsetOf functions id)) (leb (offsetOf functions id - base + sizeOf functions id) (length area)) ≡ true =
+      both-right (ltb id (functionCount functions)) _ e in
+      leb-true base (offsetOf functions id) (both-left _ _ rest)
+
+  -- the triple of a function that is inside
+  pub triple : inArea functions area base id ≡ true → 3 * id + 2 < length functions
+  triple e = omega (arith, inside-count e)
+
+  module _ (types : List (List ℕ)) (last : ℕ) where
+    pub function-none : inArea functions area base id ≡ false → functionOutcome types last functions area base id ≡ refusedWith 20 id 0
+    unfolding functionOutcome
+    function-none e = rw e
+
+    pub function-large : inArea functions area base id ≡ true → 65536 < sizeOf functions id → functionOutcome types last functions area base id ≡ refusedWith 18 0 0
+    unfolding functionOutcome
+    function-large e h = rw (e, lt-ltb 65536 (sizeOf functions id) h)
+
+    pub function-body : inArea functions area base id ≡ true → sizeOf functions id ≤ 65536 → functionOutcome types last functions area base id ≡ decodeOutcome (decodeBody types last (bodyOf functions area base id))
+    unfolding functionOutcome
+    function-body e h = rw (e, le-ltb 65536 (sizeOf functions id) h)

@@ -1,0 +1,84 @@
+use Rattle.decode.proofs.DecodeCases.{under-read, under-none, decode-large, decode-small}
+use Rattle.decode.proofs.BodyAnswers.{refused}
+use Rattle.sheet.proofs.UnderSheet.{read-as, malformed-as, some-opcode}
+use Rattle.decode.specs.declared.instructions.DecodeAnswer.the-variants as answer
+use Rattle.decode.specs.Bodies.{decodeReport}
+use native.Mathlib.Omega.{arith}
+use mathlib.Core.Path.{refl, sym, _∙_}
+use borrow.Author.Needs.{needs}
+use Rattle.decode.proofs.instructions.decode.Statement.{statement}
+use Rattle.decode.proofs.instructions.decode.Tie as tie
+
+clear-words-requires : tie.Need-clear-words-requires
+clear-words-requires c κs = search needs
+
+same-length : tie.Need-same-length
+same-length c = search needs
+
+returns : tie.Need-returns
+unfolding decodeReport
+returns c =
+    let a = c .before .before .before .before .before .before .before .before .args in
+    let w = refused _ answer.TooLarge 18 0 0 (a .out .now) _ (decode-large (a .text .now) (a .body .now) (c .before .before .before .before .if1 .taken)) refl (c .before .before .clear-words .ensures) in
+    (w .answer-is, w .words-are)
+
+read-sheet-requires : tie.Need-read-sheet-requires
+read-sheet-requires c κs = search needs
+
+enum-known-sheet : tie.Need-enum-known-sheet
+enum-known-sheet c = search needs
+
+sub-decode-under : tie.Need-sub-decode-under
+sub-decode-under c =
+    let s = c .before .before .before .before .read-sheet .ensures in
+    omega (arith, some-opcode (c .before .before .before .before .before .before .before .before .before .before .before .args .text .now) _ (read-as _ _ _ _ _ (sym (s .0) ∙ c .before .before .sheet .given .1)))
+
+decode-under-requires : tie.Need-decode-under-requires
+decode-under-requires c κs = search needs
+
+enum-known-sheet-2 : tie.Need-enum-known-sheet-2
+enum-known-sheet-2 c = search needs
+
+clear-words-requires-2 : tie.Need-clear-words-requires-2
+clear-words-requires-2 c κs = search needs
+
+same-length-2 : tie.Need-same-length-2
+same-length-2 c = search needs
+
+returns-2 : tie.Need-returns-2
+returns-2 c =
+    let a = c .before .before .before .before .before .before .before .before .before .before .before .before .before .before .before .args in
+    let s = c .before .before .before .before .before .before .before .before .read-sheet .ensures in
+    let r = read-as _ _ _ _ _ (sym (s .0) ∙ c .before .before .before .before .before .before .sheet .given .1) in
+    let e = decode-small (a .text .now) (a .body .now) (c .before .before .before .before .before .before .before .before .before .before .before .if1 .left) ∙ under-read _ _ r _ in
+    rw (e, sym (s .1 .0)) (c .before .before .decode-under .ensures)
+
+same-length-3 : tie.Need-same-length-3
+same-length-3 c = search needs
+
+returns-3 : tie.Need-returns-3
+unfolding decodeReport
+returns-3 c =
+    let a = c .before .before .before .before .before .before .before .before .before .before .before .before .before .before .args in
+    let s = c .before .before .before .before .before .before .before .read-sheet .ensures in
+    let e = decode-small (a .text .now) (a .body .now) (c .before .before .before .before .before .before .before .before .before .before .if1 .left) ∙ under-none _ _ _ (malformed-as _ _ (sym (s .0) ∙ c .before .before .before .before .before .sheet2 .given .1)) in
+    let w = refused _ (answer.Malformed (c .before .before .before .before .before .sheet2 .given .0 .0)) 1 _ 0 (a .out .now) _ e refl (c .before .before .clear-words2 .ensures) in
+    (w .answer-is, w .words-are)
+
+pub decode-spec : {M : Type 1} → statement M
+decode-spec =
+    tie.close
+    (tie.spec
+    clear-words-requires
+    same-length
+    returns
+    read-sheet-requires
+    enum-known-sheet
+    sub-decode-under
+    decode-under-requires
+    enum-known-sheet-2
+    clear-words-requires-2
+    same-length-2
+    returns-2
+    same-length-3
+    returns-3)

@@ -78,3 +78,90 @@ module _ (types : List (List ℕ)) (last : ℕ) (words : List ℕ) where
       let e : length (drop (20 * i) words) ≡ 0 → ⊥ = λ q. omega (arith, length-drop (20 * i) words) in
       let k : 20 ≤ length (drop (20 * i) words) = simp length-drop (omega arith) in
       rw (ne-eqb _ _ e, le-ltb _ _ k)
+
+-- a record that is encoded, and the bytes of its operands
+pub record OneEncoded (types : List (List ℕ)) (last : ℕ) (r os : List ℕ) : Type 0 where
+  pub shape : goodShape r ≡ true
+  pub known : getD r 1 0 ≤ last
+  pub counted : getD r 3 0 ≡ countOf (getD types (getD r 1 0) [])
+  pub operands : encodeOperands (getD types (getD r 1 0) []) (drop 4 r) 1 ≡ bytes os
+
+-- records that are encoded, and their bytes
+pub data Encoding (types : List (List ℕ)) (last : ℕ) : List ℕ → List ℕ → Type 0 where
+  ended : {words : List ℕ} → length words ≡ 0 → Encoding types last words []
+  more : {words os bs : List ℕ} → 20 ≤ length words → OneEncoded types last (take 20 words) os → Encoding types last (drop 20 words) bs
+      → Encoding types last words (getD (take 20 words) 1 0 ∷ os ++ bs)
+
+-- what was done with the rest
+pub data Appended (b : List ℕ) (rest : Encoded) (bs : List ℕ) : Type 0 where
+  behind : (ms : List ℕ) → rest ≡ encoded ms → b ++ ms ≡ bs → Appended b rest bs
+
+appended : (b : List ℕ) (rest : Encoded) (bs : List ℕ) → appendTo b rest ≡ encoded bs → Appended b rest bs
+unfolding appendTo
+appended b (encoded ms) bs e = behind ms refl (cc e)
+appended b (refused n p q) bs e = absurd (let z : _≡_ {A = ℕ} 0 1 = cc e in omega arith)
+
+pub data Operated (opcode : ℕ) (o : Operands) (rest : Encoded) (bs : List ℕ) : Type 0 where
+  operated : (os : List ℕ) → o ≡ bytes os → Appended (opcode ∷ os) rest bs → Operated opcode o rest bs
+
+with-operands : (opcode i : ℕ) (o : Operands) (rest : Encoded) (bs : List ℕ) → withOperands opcode i o rest ≡ encoded bs → Operated opcode o rest bs
+unfolding withOperands
+with-operands opcode i (bytes os) rest bs e = operated os refl (appended (opcode ∷ os) rest bs e)
+with-operands opcode i (misfit n) rest bs e = absurd (let z : _≡_ {A = ℕ} 0 1 = cc e in omega arith)
+
+module _ (types : List (List ℕ)) (last i : ℕ) (r : List ℕ) (rest : Encoded) where
+  -- a record that is encoded comes before the bytes of the rest
+  pub one-encoded : (os bs : List ℕ) → OneEncoded types last r os → rest ≡ encoded bs → encodeRecord types last i r rest ≡ encoded (getD r 1 0 ∷ os ++ bs)
+  unfolding withOperands appendTo
+  one-encoded os bs o e = record-counted types last i r rest (o .shape) (o .known) (o .counted) ∙ rw (o .operands, e)
+
+  -- and nothing else is
+  pub encoded-one : {P : Type 0} (bs : List ℕ) → encodeRecord types last i r rest ≡ encoded bs
+      → ((os ms : List ℕ) → OneEncoded types last r os → rest ≡ encoded ms → getD r 1 0 ∷ os ++ ms ≡ bs → P) → P
+  encoded-one {P} bs e then =
+      by-test (goodShape r)
+      (λ g. by-leb (getD r 1 0) last
+      (λ h. by-eqb (getD r 3 0) (countOf (getD types (getD r 1 0) []))
+      (λ c. go g h c (with-operands _ i _ rest bs (sym (record-counted types last i r rest g h c) ∙ e)))
+      (λ c. absurd (let z : _≡_ {A = ℕ} 0 1 = cc (sym (record-miscounted types last i r rest g h c) ∙ e) in omega arith)))
+      (λ h. absurd (let z : _≡_ {A = ℕ} 0 1 = cc (sym (record-beyond types last i r rest g h) ∙ e) in omega arith)))
+      (λ g. absurd (let z : _≡_ {A = ℕ} 0 1 = cc (sym (record-bad types last i r rest g) ∙ e) in omega arith))
+    where
+      go : goodShape r ≡ true → getD r 1 0 ≤ last → getD r 3 0 ≡ countOf (getD types (getD r 1 0) [])
+          → Operated (getD r 1 0) (encodeOperands (getD types (getD r 1 0) []) (drop 4 r) 1) rest bs → P
+      go g h c (operated os o (behind ms p q)) = then os ms (record { shape = g; known = h; counted = c; operands = o }) p q
+
+module _ (types : List (List ℕ)) (last : ℕ) (words : List ℕ) where
+  next-words : (i : ℕ) → drop 20 (drop (20 * i) words) ≡ drop (20 * (i + 1)) words
+  next-words i = let e : 20 * i + 20 ≡ 20 * (i + 1) = omega arith in drop-drop 20 (20 * i) words ∙ rw e
+
+  encode-from : (f i : ℕ) {ws bs : List ℕ} → ws ≡ drop (20 * i) words → length words ≤ 20 * (i + f) → Encoding types last ws bs → encodeFrom f types last words i ≡ encoded bs
+  encode-from f i q h (ended e) = from-end types last words f i (omega (arith, ap length q, length-drop (20 * i) words))
+  encode-from zero i q h (more l o d) = absurd (omega (arith, ap length q, length-drop (20 * i) words))
+  encode-from (suc f) i {ws} q h (more {os} {bs} l o d) =
+      from-more types last words f i (omega (arith, ap length q, length-drop (20 * i) words))
+      ∙ rw (sym q) (one-encoded types last i (take 20 ws) _ _ _ o (encode-from f (i + 1) (ap (drop 20) q ∙ next-words i) (omega arith) d))
+
+  stop-from : (f i : ℕ) (bs : List ℕ) → encodeFrom f types last words i ≡ encoded bs → length words ≤ 20 * i → Encoding types last (drop (20 * i) words) bs
+  stop-from f i bs e h =
+      let q : bs ≡ [] = cc (sym (from-end types last words f i h) ∙ e) in
+      let l : length (drop (20 * i) words) ≡ 0 = simp length-drop (omega arith) in
+      rw q (ended l)
+
+  encoded-from : (f i : ℕ) (bs : List ℕ) → length words ≤ 20 * (i + f) → encodeFrom f types last words i ≡ encoded bs → Encoding types last (drop (20 * i) words) bs
+  encoded-from zero i bs h e = stop-from zero i bs e (omega arith)
+  encoded-from (suc f) i bs h e =
+      by-leb (length words) (20 * i) (stop-from (suc f) i bs e) λ g.
+      by-leb (20 * i + 20) (length words)
+      (λ l. let k : 20 ≤ length (drop (20 * i) words) = simp length-drop (omega arith) in
+      encoded-one types last i (take 20 (drop (20 * i) words)) _ bs (sym (from-more types last words f i l) ∙ e)
+      (λ os ms o p q. let d : Encoding types last (drop 20 (drop (20 * i) words)) ms = rw (next-words i) (encoded-from f (i + 1) ms (omega arith) p) in
+      rw (sym q) (more k o d)))
+      (λ l. absurd (let z : _≡_ {A = ℕ} 0 1 = cc (sym (from-cut types last words f i g l) ∙ e) in omega arith))
+
+  -- all records of a slice
+  pub records-encoded : {bs : List ℕ} → Encoding types last words bs → encodeRecords types last words ≡ encoded bs
+  records-encoded d = encode-from (length words / recordWords + 1) 0 refl (omega arith) d
+
+  pub encoded-records : (bs : List ℕ) → encodeRecords types last words ≡ encoded bs → Encoding types last words bs
+  encoded-records bs e = encoded-from (length words / recordWords + 1) 0 bs (omega arith) e

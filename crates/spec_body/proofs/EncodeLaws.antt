@@ -4,20 +4,31 @@ use mathlib.Core.Bool.{Bool, true, false}
 use mathlib.Core.List.{List, [], _∷_, _++_}
 use Prim.Native.Nat.{ℕ, zero, suc, _+_, _-_, _*_, _/_, _≤_, _<_}
 use native.Mathlib.Omega.{arith}
-use lib.Dec.{eqb, ltb}
-use lib.ListN.{length, take, drop, getD, length-drop}
-use lib.Seq.{drop-drop}
+use lib.Dec.{eqb}
+use lib.ListN.{length, take, drop, getD, replicate, length-append, length-drop}
+use lib.Seq.{drop-drop, take-at, drop-at}
 use borrow.Author.Tests.{eq-eqb, ne-eqb, lt-ltb, le-ltb}
-use Rattle.lists.specs.Choice.{pick}
+use Rattle.lists.specs.Choice.{both}
 use Rattle.lists.proofs.Tests.{by-test, by-leb, by-eqb}
 use Rattle.spec_numbers.specs.LittleEndian.{leBytes}
 use Rattle.spec_numbers.specs.Parse.{Parsed}
 use Rattle.spec_numbers.specs.Parse.Parsed.{is, bad}
 use Rattle.spec_sheet.specs.Types.{widthOf}
 use Rattle.spec_body.specs.Record.{countOf, recordWords}
-use Rattle.spec_body.specs.Encode.{goodShape, encodeOperand, Operands, prependBytes, operandBytes, encodeOperands, Encoded, appendTo, withOperands, encodeRecord, encodeFrom, encodeRecords}
+use Rattle.spec_body.specs.Encode.{goodPair, goodPairs, goodShape, encodeOperand, Operands, prependBytes, operandBytes, encodeOperands, Encoded, appendTo, withOperands, encodeRecord, encodeFrom, encodeRecords}
 use Rattle.spec_body.specs.Encode.Operands.{bytes, misfit}
 use Rattle.spec_body.specs.Encode.Encoded.{encoded, refused}
+use Rattle.spec_body.proofs.OperandLaws.{no-zero}
+
+-- a pair that is used, and one that is not
+module _ (n : ℕ) (words : List ℕ) where
+  pub pairs-used : (count : ℕ) → 0 < count → goodPairs (suc n) count words ≡ both (goodPair (getD words 0 0) (getD words 1 0)) (goodPairs n (count - 1) (drop 2 words))
+  unfolding goodPairs
+  pairs-used count h = rw (no-zero count h)
+
+  pub pairs-unused : goodPairs (suc n) 0 words ≡ both (both (eqb (getD words 0 0) 0) (eqb (getD words 1 0) 0)) (goodPairs n 0 (drop 2 words))
+  unfolding goodPairs
+  pairs-unused = refl
 
 -- the operands of a row: no more, one that fits, one that doesn't
 module _ (cs words : List ℕ) (n : ℕ) where
@@ -28,11 +39,16 @@ module _ (cs words : List ℕ) (n : ℕ) where
   pub operands-more : (c v : ℕ) → 0 < c → encodeOperand c (getD words 0 0) (getD words 1 0) ≡ is v
       → encodeOperands (c ∷ cs) words n ≡ prependBytes (leBytes (widthOf c) v) (encodeOperands cs (drop 2 words) (n + 1))
   unfolding encodeOperands operandBytes
-  operands-more c v h e = let z : eqb c 0 ≡ false = ne-eqb c 0 (λ q. omega arith) in rw (encodeOperands, z, e)
+  operands-more c v h e = rw (encodeOperands, no-zero c h, e)
 
   pub operands-misfit : (c : ℕ) → 0 < c → encodeOperand c (getD words 0 0) (getD words 1 0) ≡ bad → encodeOperands (c ∷ cs) words n ≡ misfit n
   unfolding encodeOperands operandBytes
-  operands-misfit c h e = let z : eqb c 0 ≡ false = ne-eqb c 0 (λ q. omega arith) in rw (encodeOperands, z, e)
+  operands-misfit c h e = rw (encodeOperands, no-zero c h, e)
+
+pub operands-none : (n : ℕ) (words : List ℕ) (k : ℕ) → encodeOperands (replicate n 0) words k ≡ bytes []
+unfolding encodeOperands
+operands-none zero words k = refl
+operands-none (suc n) words k = refl
 
 -- one record: its shape is bad, its opcode is beyond the largest, its count is wrong, or it comes down to its operands
 module _ (types : List (List ℕ)) (last i : ℕ) (r : List ℕ) (rest : Encoded) where
@@ -88,9 +104,20 @@ pub record OneEncoded (types : List (List ℕ)) (last : ℕ) (r os : List ℕ) :
 
 -- records that are encoded, and their bytes
 pub data Encoding (types : List (List ℕ)) (last : ℕ) : List ℕ → List ℕ → Type 0 where
-  ended : {words : List ℕ} → length words ≡ 0 → Encoding types last words []
-  more : {words os bs : List ℕ} → 20 ≤ length words → OneEncoded types last (take 20 words) os → Encoding types last (drop 20 words) bs
+  no-record : {words : List ℕ} → length words ≡ 0 → Encoding types last words []
+  a-record : {words os bs : List ℕ} → 20 ≤ length words → OneEncoded types last (take 20 words) os → Encoding types last (drop 20 words) bs
       → Encoding types last words (getD (take 20 words) 1 0 ∷ os ++ bs)
+
+-- one record in front of others
+pub one-more : (types : List (List ℕ)) (last : ℕ) {r words os bs : List ℕ} → length r ≡ 20 → OneEncoded types last r os → Encoding types last words bs
+    → Encoding types last (r ++ words) (getD r 1 0 ∷ os ++ bs)
+one-more types last {r} {words} {os} {bs} h o d =
+    let t : take 20 (r ++ words) ≡ r = take-at r words 20 h in
+    let l : 20 ≤ length (r ++ words) = omega (arith, length-append r words) in
+    let p : OneEncoded types last (take 20 (r ++ words)) os = rw t o in
+    let q : Encoding types last (drop 20 (r ++ words)) bs = rw (drop-at r words 20 h) d in
+    let e : Encoding types last (r ++ words) (getD (take 20 (r ++ words)) 1 0 ∷ os ++ bs) = a-record l p q in
+    rw t at e
 
 -- what was done with the rest
 pub data Appended (b : List ℕ) (rest : Encoded) (bs : List ℕ) : Type 0 where
@@ -136,9 +163,9 @@ module _ (types : List (List ℕ)) (last : ℕ) (words : List ℕ) where
   next-words i = let e : 20 * i + 20 ≡ 20 * (i + 1) = omega arith in drop-drop 20 (20 * i) words ∙ rw e
 
   encode-from : (f i : ℕ) {ws bs : List ℕ} → ws ≡ drop (20 * i) words → length words ≤ 20 * (i + f) → Encoding types last ws bs → encodeFrom f types last words i ≡ encoded bs
-  encode-from f i q h (ended e) = from-end types last words f i (omega (arith, ap length q, length-drop (20 * i) words))
-  encode-from zero i q h (more l o d) = absurd (omega (arith, ap length q, length-drop (20 * i) words))
-  encode-from (suc f) i {ws} q h (more {os} {bs} l o d) =
+  encode-from f i q h (no-record e) = from-end types last words f i (omega (arith, ap length q, length-drop (20 * i) words))
+  encode-from zero i q h (a-record l o d) = absurd (omega (arith, ap length q, length-drop (20 * i) words))
+  encode-from (suc f) i {ws} q h (a-record l o d) =
       from-more types last words f i (omega (arith, ap length q, length-drop (20 * i) words))
       ∙ rw (sym q) (one-encoded types last i (take 20 ws) _ _ _ o (encode-from f (i + 1) (ap (drop 20) q ∙ next-words i) (omega arith) d))
 
@@ -146,7 +173,7 @@ module _ (types : List (List ℕ)) (last : ℕ) (words : List ℕ) where
   stop-from f i bs e h =
       let q : bs ≡ [] = cc (sym (from-end types last words f i h) ∙ e) in
       let l : length (drop (20 * i) words) ≡ 0 = simp length-drop (omega arith) in
-      rw q (ended l)
+      rw q (no-record l)
 
   encoded-from : (f i : ℕ) (bs : List ℕ) → length words ≤ 20 * (i + f) → encodeFrom f types last words i ≡ encoded bs → Encoding types last (drop (20 * i) words) bs
   encoded-from zero i bs h e = stop-from zero i bs e (omega arith)
@@ -156,7 +183,7 @@ module _ (types : List (List ℕ)) (last : ℕ) (words : List ℕ) where
       (λ l. let k : 20 ≤ length (drop (20 * i) words) = simp length-drop (omega arith) in
       encoded-one types last i (take 20 (drop (20 * i) words)) _ bs (sym (from-more types last words f i l) ∙ e)
       (λ os ms o p q. let d : Encoding types last (drop 20 (drop (20 * i) words)) ms = rw (next-words i) (encoded-from f (i + 1) ms (omega arith) p) in
-      rw (sym q) (more k o d)))
+      rw (sym q) (a-record k o d)))
       (λ l. absurd (let z : _≡_ {A = ℕ} 0 1 = cc (sym (from-cut types last words f i g l) ∙ e) in omega arith))
 
   -- all records of a slice

@@ -2,3 +2,5 @@ pub mod DecodeLaws
 pub mod StartLaws
 pub mod OperandLaws
 pub mod EncodeLaws
+pub mod RowLaws
+pub mod ReencodeLaws

@@ -6,7 +6,7 @@ use native.Mathlib.Nat.{lt-of-lt-of-le, pow-le-pow-right}
 use native.Mathlib.Omega.{arith}
 use lib.Dec.{eqb, leb, ltb}
 use lib.ListN.{getD}
-use borrow.Author.Tests.{eqb-true, leb-true, ltb-true, lt-ltb}
+use borrow.Author.Tests.{eqb-true, leb-true, ltb-true, lt-ltb, ne-eqb}
 use Rattle.lists.specs.Choice.{pick, both, either}
 use Rattle.lists.proofs.Tests.{by-test, by-leb, by-eqb, both-left, both-right, both-yes, true-not-false}
 use Rattle.spec_numbers.specs.TwosComplement.{extend8}
@@ -38,6 +38,10 @@ by-class P unsigned addr8 addr32 imm32 double c l h =
     by-eqb c 11 (λ e. rw e imm32) λ d.
     let e : c ≡ 12 = omega (arith, a, b, d) in
     rw e double
+
+-- a type's code is not that of no operand
+pub no-zero : (c : ℕ) → 0 < c → eqb c 0 ≡ false
+no-zero c h = ne-eqb c 0 (λ q. omega arith)
 
 -- the kind of a type is one, and has its bytes
 module _ (c : ℕ) (l : 0 < c) (h : c ≤ 12) where

@@ -4,3 +4,4 @@ pub mod OperandLaws
 pub mod EncodeLaws
 pub mod RowLaws
 pub mod ReencodeLaws
+pub mod RedecodeLaws

@@ -29,7 +29,7 @@ use Rattle.spec_body.proofs.DecodeLaws.Decoding.{ended, more}
 use Rattle.spec_body.proofs.OperandLaws.{no-zero, typed-pair, kept}
 use Rattle.spec_body.proofs.EncodeLaws.{OneEncoded, Encoding, pairs-used, operands-more, operands-none, one-more, records-encoded}
 use Rattle.spec_body.proofs.EncodeLaws.Encoding.{no-record}
-use Rattle.spec_body.proofs.RowLaws.{GoodRow, GoodRows, good-length, good-widths, good-count}
+use Rattle.spec_body.proofs.RowLaws.{GoodRow, GoodRows, good-length, good-widths, good-count, sub-one}
 
 -- parts: one behind the other, and their bytes
 part-add : (s : List ℕ) (p n m : ℕ) → part s p (n + m) ≡ part s p n ++ part s (p + n) m
@@ -46,9 +46,6 @@ part-back s p n h l = ap (λ (k : ℕ). leBytes k (le (part s p n))) (sym (part-
 
 part-below : (s : List ℕ) (p n : ℕ) → Bytes s → le (part s p n) < 256 ^ n
 part-below s p n h = le-bound n (drop p s) (bytes-drop s p h)
-
-sub-one : (n : ℕ) → suc n - 1 ≡ n
-sub-one n = omega arith
 
 -- the pairs of a record that was decoded have a good shape, and are encoded to the bytes that they were read from
 module _ (s : List ℕ) (h : Bytes s) where

@@ -3,4 +3,5 @@ pub mod Decode
 pub mod Starts
 pub mod Function
 pub mod Encode
+pub mod Recode
 pub mod Operation

@@ -1,0 +1,160 @@
+-- The bytes of records that were encoded are decoded to the same records, their offsets and lengths anew. Assumes nothing.
+use mathlib.Core.Path.{_≡_, refl, ap, sym, _∙_}
+use mathlib.Core.Bool.{Bool, true, false}
+use mathlib.Core.List.{List, [], _∷_, _++_, append-assoc}
+use Prim.Native.Nat.{ℕ, zero, suc, _+_, _-_, _*_, _/_, _^_, _≤_, _<_}
+use native.Mathlib.Nat.{add-zero}
+use native.Mathlib.Omega.{arith}
+use lib.Dec.{leb}
+use lib.ListN.{length, take, drop, getD, replicate, length-append, length-drop}
+use lib.Seq.{drop-drop, take-at, drop-at, getD-drop}
+use Rattle.lists.specs.Choice.{pick, both}
+use Rattle.lists.specs.Scan.{Bytes, part}
+use Rattle.lists.proofs.Tests.{both-left, both-right}
+use Rattle.spec_numbers.specs.LittleEndian.{le, leBytes}
+use Rattle.spec_numbers.specs.Parse.{Parsed}
+use Rattle.spec_numbers.specs.Parse.Parsed.{is, bad}
+use Rattle.spec_numbers.proofs.ByteLaws.{le-leBytes, length-leBytes}
+use Rattle.spec_sheet.specs.Types.{widthOf, kindOf}
+use Rattle.spec_sheet.proofs.OpLaws.{TypeCodes}
+use Rattle.spec_sheet.proofs.OpLaws.TypeCodes.{none, one}
+use Rattle.spec_body.specs.Record.{sumBy, widths, lengthOf, countOf, pairs, recordOf, recordWords}
+use Rattle.spec_body.specs.Decode.{Decoded, decodeBody, rowAt}
+use Rattle.spec_body.specs.Decode.Decoded.{decoded}
+use Rattle.spec_body.specs.Encode.{goodPair, goodPairs, goodShape, Operands, prependBytes, encodeOperand, encodeOperands, Encoded, encodeRecords}
+use Rattle.spec_body.specs.Encode.Operands.{bytes, misfit}
+use Rattle.spec_body.specs.Encode.Encoded.{encoded}
+use Rattle.spec_body.specs.Recode.{numberOf, writtenBits, recodedPairs, recodedRecord, recodedFrom, recoded}
+use Rattle.spec_body.proofs.DecodeLaws.{Decoding, body-decoded}
+use Rattle.spec_body.proofs.DecodeLaws.Decoding.{ended, more}
+use Rattle.spec_body.proofs.OperandLaws.{no-zero, written-fits}
+use Rattle.spec_body.proofs.EncodeLaws.{OneEncoded, Encoding, pairs-used, operands-none, operands-more, operands-misfit, encoded-records}
+use Rattle.spec_body.proofs.EncodeLaws.Encoding.{no-record, a-record}
+use Rattle.spec_body.proofs.RowLaws.{GoodRow, GoodRows, good-widths, good-count, sub-one}
+
+-- operands that were written, each in its type's bytes
+pub data Written : List ℕ → List ℕ → List ℕ → Type 0 where
+  no-operand : {words : List ℕ} → Written [] words []
+  an-operand : {c v : ℕ} {cs words os : List ℕ} → 0 < c → encodeOperand c (getD words 0 0) (getD words 1 0) ≡ is v → v < 256 ^ widthOf c
+      → Written cs (drop 2 words) os → Written (c ∷ cs) words (leBytes (widthOf c) v ++ os)
+
+prepended-bytes : {P : Type 0} (b : List ℕ) (o : Operands) (os : List ℕ) → prependBytes b o ≡ bytes os → ((ms : List ℕ) → o ≡ bytes ms → b ++ ms ≡ os → P) → P
+unfolding prependBytes
+prepended-bytes b (bytes ms) os e then = then ms refl (cc e)
+prepended-bytes b (misfit n) os e then = absurd (let z : _≡_ {A = ℕ} 0 1 = cc e in omega arith)
+
+operands-written : {cs : List ℕ} → TypeCodes cs → (m n k : ℕ) (words os : List ℕ) → m ≡ length cs + n → goodPairs m (length cs) words ≡ true
+    → encodeOperands (cs ++ replicate n 0) words k ≡ bytes os → Written cs words os
+operands-written none m n k words os q g e =
+    let z : os ≡ [] = cc (sym (operands-none n words k) ∙ e) in
+    rw z no-operand
+operands-written (one l h t) zero n k words os q g e = absurd (omega arith)
+operands-written (one {c} {cs} l h t) (suc m) n k words os q g e =
+    go (λ ms. operands-written t m n (k + 1) (drop 2 words) ms (omega arith) rest) (encodeOperand c (getD words 0 0) (getD words 1 0)) refl
+  where
+    b : both (goodPair (getD words 0 0) (getD words 1 0)) (goodPairs m (suc (length cs) - 1) (drop 2 words)) ≡ true
+    b = sym (pairs-used m words (suc (length cs)) (omega arith)) ∙ g
+
+    pair : goodPair (getD words 0 0) (getD words 1 0) ≡ true
+    pair = both-left _ _ b
+
+    rest : goodPairs m (length cs) (drop 2 words) ≡ true
+    rest = rw (sub-one (length cs)) at (both-right (goodPair (getD words 0 0) (getD words 1 0)) _ b)
+
+    go : ((ms : List ℕ) → encodeOperands (cs ++ replicate n 0) (drop 2 words) (k + 1) ≡ bytes ms → Written cs (drop 2 words) ms)
+        → (p : Parsed) → encodeOperand c (getD words 0 0) (getD words 1 0) ≡ p → Written (c ∷ cs) words os
+    go ih (is v) w =
+        prepended-bytes (leBytes (widthOf c) v) _ os (sym (operands-more (cs ++ replicate n 0) words k c v l w) ∙ e)
+        (λ ms x y. rw (sym y) (an-operand l w (written-fits c l h _ _ v pair w) (ih ms x)))
+    go ih bad w = absurd (let z : _≡_ {A = ℕ} 0 1 = cc (sym (operands-misfit (cs ++ replicate n 0) words k c l w) ∙ e) in omega arith)
+
+written-length : {cs words os : List ℕ} → Written cs words os → length os ≡ widths cs
+unfolding sumBy
+written-length no-operand = refl
+written-length (an-operand {c} {v} {cs} {words} {os} l e h w) = omega (arith, length-append (leBytes (widthOf c) v) os, length-leBytes (widthOf c) v, written-length w)
+
+-- operands that were written stand in any list that has their bytes at a place, and are read from there
+module _ (s : List ℕ) where
+  zeros-read : (n p : ℕ) (words : List ℕ) → pairs (replicate n 0) s p ≡ recodedPairs (replicate n 0) words
+  unfolding pairs recodedPairs writtenBits widthOf le
+  zeros-read zero p words = refl
+  zeros-read (suc n) p words = ap (λ (r : List ℕ). kindOf 0 ∷ 0 ∷ r) (zeros-read n (p + 0) (drop 2 words))
+
+  written-read : {cs words os : List ℕ} → Written cs words os → (n p : ℕ) (post : List ℕ) → drop p s ≡ os ++ post
+      → pairs (cs ++ replicate n 0) s p ≡ recodedPairs (cs ++ replicate n 0) words
+  unfolding pairs recodedPairs writtenBits numberOf
+  written-read {words = words} no-operand n p post e = zeros-read n p words
+  written-read (an-operand {c} {v} {cs} {words} {os} l w h r) n p post e =
+      let q : drop p s ≡ leBytes (widthOf c) v ++ (os ++ post) = e ∙ append-assoc (leBytes (widthOf c) v) os post in
+      let f : part s p (widthOf c) ≡ leBytes (widthOf c) v = ap (take (widthOf c)) q ∙ take-at (leBytes (widthOf c) v) (os ++ post) (widthOf c) (length-leBytes (widthOf c) v) in
+      let d : drop (p + widthOf c) s ≡ os ++ post =
+      sym (drop-drop (widthOf c) p s) ∙ (ap (drop (widthOf c)) q ∙ drop-at (leBytes (widthOf c) v) (os ++ post) (widthOf c) (length-leBytes (widthOf c) v)) in
+      rw (f, le-leBytes (widthOf c) v h, no-zero c l, w, written-read r n (p + widthOf c) post d)
+
+  -- so is a record
+  module _ (types : List (List ℕ)) (last at : ℕ) (r os post : List ℕ) (o : OneEncoded types last r os) (g : GoodRow (getD types (getD r 1 0) [])) (e : drop at s ≡ getD r 1 0 ∷ os ++ post) where
+    opcode-read : getD s at 0 ≡ getD r 1 0
+    opcode-read = ap (λ (i : ℕ). getD s i 0) (sym (add-zero at)) ∙ (sym (getD-drop at s 0 0) ∙ ap (λ (l : List ℕ). getD l 0 0) e)
+
+    behind-opcode : drop (at + 1) s ≡ os ++ post
+    behind-opcode = sym (drop-drop 1 at s) ∙ ap (drop 1) e
+
+    row-written : Written (g .codes) (drop 4 r) os
+    unfolding goodShape
+    row-written =
+        let q = rw (o .counted ∙ good-count g) at (both-right (leb (getD r 3 0) 8) _ (o .shape)) in
+        operands-written (g .types) 8 (8 - length (g .codes)) 1 (drop 4 r) os (omega (arith, g .few)) q (rw (g .is-row) at (o .operands))
+
+    operands-length : length os ≡ widths (getD types (getD r 1 0) [])
+    operands-length = written-length row-written ∙ sym (good-widths g)
+
+    record-read : recordOf (rowAt types s at) s at ≡ recodedRecord (getD types (getD r 1 0) []) r at
+    record-read =
+        let p : pairs (getD types (getD r 1 0) []) s (at + 1) ≡ recodedPairs (getD types (getD r 1 0) []) (drop 4 r) =
+        rw (g .is-row) (written-read row-written (8 - length (g .codes)) (at + 1) post behind-opcode) in
+        rw (opcode-read, p, o .counted)
+
+    -- and it lies inside
+    record-inside : at + lengthOf (getD types (getD r 1 0) []) ≤ length s
+    record-inside = omega (arith, ap length e, length-drop at s, length-append os post, operands-length)
+
+    behind-record : drop (at + lengthOf (getD types (getD r 1 0) [])) s ≡ post
+    behind-record =
+        let q : at + lengthOf (getD types (getD r 1 0) []) ≡ (at + 1) + length os = omega (arith, operands-length) in
+        rw q (sym (drop-drop (length os) (at + 1) s) ∙ (ap (drop (length os)) behind-opcode ∙ drop-at os post (length os) refl))
+
+    record-decoded : {rs : List (List ℕ)} → Decoding types last s (at + lengthOf (getD types (getD r 1 0) [])) rs
+        → Decoding types last s at (recodedRecord (getD types (getD r 1 0) []) r at ∷ rs)
+    record-decoded {rs} d =
+        let w : rowAt types s at ≡ getD types (getD r 1 0) [] = ap (λ (k : ℕ). getD types k []) opcode-read in
+        let i : at + lengthOf (rowAt types s at) ≤ length s = rw w record-inside in
+        let h : at < length s = omega arith in
+        let k : getD s at 0 ≤ last = rw opcode-read (o .known) in
+        let x : Decoding types last s (at + lengthOf (rowAt types s at)) rs = rw w d in
+        let y : Decoding types last s at (recordOf (rowAt types s at) s at ∷ rs) = more h k i x in
+        rw record-read at y
+
+  encoding-decoded : (types : List (List ℕ)) (last : ℕ) → GoodRows types → last ≤ 255 → {words bs : List ℕ} → Encoding types last words bs
+      → (n at : ℕ) → length words ≡ 20 * n → drop at s ≡ bs → Decoding types last s at (recodedFrom n types words at)
+  unfolding recodedFrom
+  encoding-decoded types last g l (no-record e) zero at q d =
+      let h : length s ≤ at = omega (arith, ap length d, length-drop at s) in
+      ended h
+  encoding-decoded types last g l (no-record e) (suc n) at q d = absurd (omega arith)
+  encoding-decoded types last g l (a-record k o r) zero at q d = absurd (omega arith)
+  encoding-decoded types last g l (a-record {words} {os} {bs} k o r) (suc n) at q d =
+      let row : GoodRow (getD types (getD (take 20 words) 1 0) []) = g (getD (take 20 words) 1 0) (omega (arith, o .known)) in
+      record-decoded types last at (take 20 words) os bs o row d
+      (encoding-decoded types last g l r n _ (omega (arith, length-drop 20 words)) (behind-record types last at (take 20 words) os bs o row d))
+
+-- records that are encoded are whole
+pub encoding-whole : {types : List (List ℕ)} {last : ℕ} {words bs : List ℕ} → Encoding types last words bs → length words ≡ 20 * (length words / 20)
+encoding-whole (no-record e) = omega arith
+encoding-whole (a-record {words} k o d) = omega (arith, encoding-whole d, length-drop 20 words)
+
+-- the second round trip
+pub redecoded : (types : List (List ℕ)) (last : ℕ) (words bs : List ℕ) → GoodRows types → last ≤ 255
+    → encodeRecords types last words ≡ encoded bs → decodeBody types last bs ≡ decoded (recoded types words)
+redecoded types last words bs g l e =
+    let d = encoded-records types last words bs e in
+    body-decoded types last bs (encoding-decoded bs types last g l d (length words / recordWords) 0 (encoding-whole d) refl)

@@ -9,7 +9,7 @@ use lib.ListN.{length, take, drop, getD, replicate, length-append, length-drop}
 use lib.Seq.{drop-drop, take-at, drop-at}
 use borrow.Author.Tests.{eq-eqb, ne-eqb, lt-ltb, le-ltb}
 use Rattle.lists.specs.Choice.{both}
-use Rattle.lists.proofs.Tests.{by-test, by-leb, by-eqb}
+use Rattle.lists.proofs.Tests.{by-test, by-leb, by-eqb, both-left, both-right}
 use Rattle.spec_numbers.specs.LittleEndian.{leBytes}
 use Rattle.spec_numbers.specs.Parse.{Parsed}
 use Rattle.spec_numbers.specs.Parse.Parsed.{is, bad}
@@ -22,9 +22,17 @@ use Rattle.spec_body.proofs.OperandLaws.{no-zero}
 
 -- a pair that is used, and one that is not
 module _ (n : ℕ) (words : List ℕ) where
-  pub pairs-used : (count : ℕ) → 0 < count → goodPairs (suc n) count words ≡ both (goodPair (getD words 0 0) (getD words 1 0)) (goodPairs n (count - 1) (drop 2 words))
+  pub pairs-used : (count : ℕ) → goodPairs (suc n) (suc count) words ≡ both (goodPair (getD words 0 0) (getD words 1 0)) (goodPairs n count (drop 2 words))
   unfolding goodPairs
-  pairs-used count h = rw (no-zero count h)
+  pairs-used count =
+      let e : suc count - 1 ≡ count = omega arith in
+      rw (no-zero (suc count) (omega arith), e)
+
+  pub used-pair : (count : ℕ) → goodPairs (suc n) (suc count) words ≡ true → goodPair (getD words 0 0) (getD words 1 0) ≡ true
+  used-pair count g = both-left _ _ (sym (pairs-used count) ∙ g)
+
+  pub pairs-behind : (count : ℕ) → goodPairs (suc n) (suc count) words ≡ true → goodPairs n count (drop 2 words) ≡ true
+  pairs-behind count g = both-right (goodPair (getD words 0 0) (getD words 1 0)) _ (sym (pairs-used count) ∙ g)
 
   pub pairs-unused : goodPairs (suc n) 0 words ≡ both (both (eqb (getD words 0 0) 0) (eqb (getD words 1 0) 0)) (goodPairs n 0 (drop 2 words))
   unfolding goodPairs

@@ -5,9 +5,10 @@ use mathlib.Core.List.{List, [], _∷_, _++_, append-assoc}
 use Prim.Native.Nat.{ℕ, zero, suc, _+_, _-_, _*_, _/_, _^_, _≤_, _<_}
 use native.Mathlib.Nat.{add-zero}
 use native.Mathlib.Omega.{arith}
-use lib.Dec.{leb}
+use lib.Dec.{leb, eqb}
 use lib.ListN.{length, take, drop, getD, replicate, length-append, length-drop}
 use lib.Seq.{drop-drop, take-at, drop-at, getD-drop}
+use borrow.Author.Tests.{eqb-true}
 use Rattle.lists.specs.Choice.{pick, both}
 use Rattle.lists.specs.Scan.{Bytes, part}
 use Rattle.lists.proofs.Tests.{both-left, both-right}
@@ -18,19 +19,20 @@ use Rattle.spec_numbers.proofs.ByteLaws.{le-leBytes, length-leBytes}
 use Rattle.spec_sheet.specs.Types.{widthOf, kindOf}
 use Rattle.spec_sheet.proofs.OpLaws.{TypeCodes}
 use Rattle.spec_sheet.proofs.OpLaws.TypeCodes.{none, one}
-use Rattle.spec_body.specs.Record.{sumBy, widths, lengthOf, countOf, pairs, recordOf, recordWords}
+use Rattle.spec_body.specs.Record.{sumBy, widths, lengthOf, countOf, pairs, recordOf, join, recordWords}
 use Rattle.spec_body.specs.Decode.{Decoded, decodeBody, rowAt}
 use Rattle.spec_body.specs.Decode.Decoded.{decoded}
-use Rattle.spec_body.specs.Encode.{goodPair, goodPairs, goodShape, Operands, prependBytes, encodeOperand, encodeOperands, Encoded, encodeRecords}
+use Rattle.spec_body.specs.Encode.{kindWidths, goodPair, goodPairs, goodShape, Operands, prependBytes, encodeOperand, encodeOperands, Encoded, encodeRecords}
 use Rattle.spec_body.specs.Encode.Operands.{bytes, misfit}
 use Rattle.spec_body.specs.Encode.Encoded.{encoded}
 use Rattle.spec_body.specs.Recode.{numberOf, writtenBits, recodedPairs, recodedRecord, recodedFrom, recoded}
 use Rattle.spec_body.proofs.DecodeLaws.{Decoding, body-decoded}
 use Rattle.spec_body.proofs.DecodeLaws.Decoding.{ended, more}
-use Rattle.spec_body.proofs.OperandLaws.{no-zero, written-fits}
-use Rattle.spec_body.proofs.EncodeLaws.{OneEncoded, Encoding, pairs-used, operands-none, operands-more, operands-misfit, encoded-records}
+use Rattle.spec_body.proofs.OperandLaws.{no-zero, kept, kind-width, pair-bound, written-fits}
+use Rattle.spec_body.proofs.EncodeLaws.{OneEncoded, Encoding, used-pair, pairs-behind, operands-none, operands-more, operands-misfit, encoded-records}
 use Rattle.spec_body.proofs.EncodeLaws.Encoding.{no-record, a-record}
-use Rattle.spec_body.proofs.RowLaws.{GoodRow, GoodRows, good-widths, good-count, sub-one}
+use Rattle.spec_body.proofs.RowLaws.{GoodRow, GoodRows, good-widths, good-count}
+use Rattle.spec_body.proofs.ReencodeLaws.{reencoded}
 
 -- operands that were written, each in its type's bytes
 pub data Written : List ℕ → List ℕ → List ℕ → Type 0 where
@@ -50,28 +52,25 @@ operands-written none m n k words os q g e =
     rw z no-operand
 operands-written (one l h t) zero n k words os q g e = absurd (omega arith)
 operands-written (one {c} {cs} l h t) (suc m) n k words os q g e =
-    go (λ ms. operands-written t m n (k + 1) (drop 2 words) ms (omega arith) rest) (encodeOperand c (getD words 0 0) (getD words 1 0)) refl
+    go (λ ms. operands-written t m n (k + 1) (drop 2 words) ms (omega arith) (pairs-behind m words (length cs) g)) (encodeOperand c (getD words 0 0) (getD words 1 0)) refl
   where
-    b : both (goodPair (getD words 0 0) (getD words 1 0)) (goodPairs m (suc (length cs) - 1) (drop 2 words)) ≡ true
-    b = sym (pairs-used m words (suc (length cs)) (omega arith)) ∙ g
-
-    pair : goodPair (getD words 0 0) (getD words 1 0) ≡ true
-    pair = both-left _ _ b
-
-    rest : goodPairs m (length cs) (drop 2 words) ≡ true
-    rest = rw (sub-one (length cs)) at (both-right (goodPair (getD words 0 0) (getD words 1 0)) _ b)
-
     go : ((ms : List ℕ) → encodeOperands (cs ++ replicate n 0) (drop 2 words) (k + 1) ≡ bytes ms → Written cs (drop 2 words) ms)
         → (p : Parsed) → encodeOperand c (getD words 0 0) (getD words 1 0) ≡ p → Written (c ∷ cs) words os
     go ih (is v) w =
         prepended-bytes (leBytes (widthOf c) v) _ os (sym (operands-more (cs ++ replicate n 0) words k c v l w) ∙ e)
-        (λ ms x y. rw (sym y) (an-operand l w (written-fits c l h _ _ v pair w) (ih ms x)))
+        (λ ms x y. rw (sym y) (an-operand l w (written-fits c l h _ _ v (used-pair m words (length cs) g) w) (ih ms x)))
     go ih bad w = absurd (let z : _≡_ {A = ℕ} 0 1 = cc (sym (operands-misfit (cs ++ replicate n 0) words k c l w) ∙ e) in omega arith)
 
 written-length : {cs words os : List ℕ} → Written cs words os → length os ≡ widths cs
 unfolding sumBy
 written-length no-operand = refl
 written-length (an-operand {c} {v} {cs} {words} {os} l e h w) = omega (arith, length-append (leBytes (widthOf c) v) os, length-leBytes (widthOf c) v, written-length w)
+
+-- the pairs of an encoded record, of which as many are used as its types are
+shape-pairs : (types : List (List ℕ)) (last : ℕ) (r os : List ℕ) → OneEncoded types last r os → (g : GoodRow (getD types (getD r 1 0) []))
+    → goodPairs 8 (length (g .codes)) (drop 4 r) ≡ true
+unfolding goodShape
+shape-pairs types last r os o g = rw (o .counted ∙ good-count g) at (both-right (leb (getD r 3 0) 8) _ (o .shape))
 
 -- operands that were written stand in any list that has their bytes at a place, and are read from there
 module _ (s : List ℕ) where
@@ -100,10 +99,8 @@ module _ (s : List ℕ) where
     behind-opcode = sym (drop-drop 1 at s) ∙ ap (drop 1) e
 
     row-written : Written (g .codes) (drop 4 r) os
-    unfolding goodShape
     row-written =
-        let q = rw (o .counted ∙ good-count g) at (both-right (leb (getD r 3 0) 8) _ (o .shape)) in
-        operands-written (g .types) 8 (8 - length (g .codes)) 1 (drop 4 r) os (omega (arith, g .few)) q (rw (g .is-row) at (o .operands))
+        operands-written (g .types) 8 (8 - length (g .codes)) 1 (drop 4 r) os (omega (arith, g .few)) (shape-pairs types last r os o g) (rw (g .is-row) at (o .operands))
 
     operands-length : length os ≡ widths (getD types (getD r 1 0) [])
     operands-length = written-length row-written ∙ sym (good-widths g)
@@ -158,3 +155,57 @@ pub redecoded : (types : List (List ℕ)) (last : ℕ) (words bs : List ℕ) →
 redecoded types last words bs g l e =
     let d = encoded-records types last words bs e in
     body-decoded types last bs (encoding-decoded bs types last g l d (length words / recordWords) 0 (encoding-whole d) refl)
+
+-- the records of a decoded body come back as they are
+pub recoded-back : (types : List (List ℕ)) (last : ℕ) (s : List ℕ) (rs : List (List ℕ)) → GoodRows types → last ≤ 255 → Bytes s
+    → decodeBody types last s ≡ decoded rs → recoded types (join rs) ≡ rs
+recoded-back types last s rs g l h e = cc (sym (redecoded types last (join rs) s g l (reencoded types last s rs g l h e)) ∙ e)
+
+-- bits of a type's own kind come back as they are
+pub kept-bits : (c : ℕ) → 0 < c → c ≤ 12 → (bits : ℕ) → bits < 256 ^ widthOf c → writtenBits c (kindOf c) bits ≡ bits
+unfolding writtenBits numberOf
+kept-bits c l h bits b = rw (no-zero c l, kept c l h bits b)
+
+-- the kinds of the first pairs are those of type codes
+abbrev pub SameKinds : List ℕ → List ℕ → Type 0
+SameKinds cs words = (i : ℕ) → i < length cs → getD words (2 * i) 0 ≡ kindOf (getD cs i 0)
+
+zeros-kept : (n : ℕ) (words : List ℕ) → length words ≡ 2 * n → goodPairs n 0 words ≡ true → recodedPairs (replicate n 0) words ≡ words
+unfolding recodedPairs writtenBits goodPairs kindOf
+zeros-kept zero [] q g = refl
+zeros-kept zero (a ∷ words) q g = absurd (omega arith)
+zeros-kept (suc n) [] q g = absurd (omega arith)
+zeros-kept (suc n) (a ∷ []) q g = absurd (omega arith)
+zeros-kept (suc n) (a ∷ b ∷ words) q g =
+    let p : both (eqb a 0) (eqb b 0) ≡ true = both-left (both (eqb a 0) (eqb b 0)) (goodPairs n 0 words) g in
+    let x : a ≡ 0 = eqb-true a 0 (both-left (eqb a 0) (eqb b 0) p) in
+    let y : b ≡ 0 = eqb-true b 0 (both-right (eqb a 0) (eqb b 0) p) in
+    rw (x, y, zeros-kept n words (omega arith) (both-right (both (eqb a 0) (eqb b 0)) (goodPairs n 0 words) g))
+
+kinds-behind : (c : ℕ) (cs : List ℕ) (a b : ℕ) (words : List ℕ) → SameKinds (c ∷ cs) (a ∷ b ∷ words) → SameKinds cs words
+kinds-behind c cs a b words k i h =
+    let e : 2 * suc i ≡ suc (suc (2 * i)) = omega arith in
+    rw e at (k (suc i) (omega arith))
+
+pairs-kept : {cs : List ℕ} → TypeCodes cs → (m n : ℕ) (words : List ℕ) → m ≡ length cs + n → length words ≡ 2 * m → goodPairs m (length cs) words ≡ true
+    → SameKinds cs words → recodedPairs (cs ++ replicate n 0) words ≡ words
+unfolding recodedPairs
+pairs-kept none m n words e q g k = zeros-kept n words (omega arith) (let f : n ≡ m = omega arith in rw f g)
+pairs-kept (one l h t) zero n words e q g k = absurd (omega arith)
+pairs-kept (one l h t) (suc m) n [] e q g k = absurd (omega arith)
+pairs-kept (one l h t) (suc m) n (a ∷ []) e q g k = absurd (omega arith)
+pairs-kept (one {c} {cs} l h t) (suc m) n (a ∷ b ∷ words) e q g k =
+    let x : a ≡ kindOf c = k 0 (omega arith) in
+    let d : getD kindWidths a 0 ≡ widthOf c = ap (λ (i : ℕ). getD kindWidths i 0) x ∙ kind-width c l h in
+    let y : b < 256 ^ widthOf c = rw d at (pair-bound a b (used-pair m (a ∷ b ∷ words) (length cs) g)) in
+    let r : recodedPairs (cs ++ replicate n 0) words ≡ words = pairs-kept t m n words (omega arith) (omega arith) (pairs-behind m (a ∷ b ∷ words) (length cs) g) (kinds-behind c cs a b words k) in
+    rw (x, kept-bits c l h b y, r)
+
+-- so a record whose kinds are those of its types is the same but for its offset and length
+pub recoded-record : (types : List (List ℕ)) (last at : ℕ) (r os : List ℕ) → (g : GoodRow (getD types (getD r 1 0) [])) → length r ≡ 20 → OneEncoded types last r os
+    → SameKinds (g .codes) (drop 4 r)
+    → recodedRecord (getD types (getD r 1 0) []) r at ≡ at ∷ getD r 1 0 ∷ lengthOf (getD types (getD r 1 0) []) ∷ getD r 3 0 ∷ drop 4 r
+recoded-record types last at r os g h o k =
+    let p : recodedPairs (getD types (getD r 1 0) []) (drop 4 r) ≡ drop 4 r =
+    rw (g .is-row) (pairs-kept (g .types) 8 (8 - length (g .codes)) (drop 4 r) (omega (arith, g .few)) (omega (arith, length-drop 4 r)) (shape-pairs types last r os o g) k) in
+    rw p

@@ -29,7 +29,7 @@ use Rattle.spec_body.proofs.DecodeLaws.Decoding.{ended, more}
 use Rattle.spec_body.proofs.OperandLaws.{no-zero, typed-pair, kept}
 use Rattle.spec_body.proofs.EncodeLaws.{OneEncoded, Encoding, pairs-used, operands-more, operands-none, one-more, records-encoded}
 use Rattle.spec_body.proofs.EncodeLaws.Encoding.{no-record}
-use Rattle.spec_body.proofs.RowLaws.{GoodRow, GoodRows, good-length, good-widths, good-count, sub-one}
+use Rattle.spec_body.proofs.RowLaws.{GoodRow, GoodRows, good-length, good-widths, good-count}
 
 -- parts: one behind the other, and their bytes
 part-add : (s : List ℕ) (p n m : ℕ) → part s p (n + m) ≡ part s p n ++ part s (p + n) m
@@ -60,8 +60,7 @@ module _ (s : List ℕ) (h : Bytes s) where
   pairs-good (one l k t) zero n p e = absurd (omega arith)
   pairs-good (one {c} {cs} l k t) (suc m) n p e =
       let g : goodPair (kindOf c) (le (part s p (widthOf c))) ≡ true = typed-pair c l k _ (part-below s p (widthOf c) h) in
-      let r : goodPairs m (suc (length cs) - 1) (pairs (cs ++ replicate n 0) s (p + widthOf c)) ≡ true = rw (sub-one (length cs)) (pairs-good t m n (p + widthOf c) (omega arith)) in
-      pairs-used m (pairs (c ∷ cs ++ replicate n 0) s p) (suc (length cs)) (omega arith) ∙ both-yes _ _ g r
+      pairs-used m (pairs (c ∷ cs ++ replicate n 0) s p) (length cs) ∙ both-yes _ _ g (pairs-good t m n (p + widthOf c) (omega arith))
 
   operands-back : {cs : List ℕ} → TypeCodes cs → (n p k : ℕ) → p + widths cs ≤ length s
       → encodeOperands (cs ++ replicate n 0) (pairs (cs ++ replicate n 0) s p) k ≡ bytes (part s p (widths cs))

@@ -21,10 +21,6 @@ pub record GoodRow (row : List ℕ) : Type 0 where
 abbrev pub GoodRows : List (List ℕ) → Type 0
 GoodRows types = (k : ℕ) → k < 256 → GoodRow (getD types k [])
 
--- one operand less
-pub sub-one : (n : ℕ) → suc n - 1 ≡ n
-sub-one n = omega arith
-
 -- a sum passes over the zeros where the function does
 sum-zeros : (f : ℕ → ℕ) (n : ℕ) → f 0 ≡ 0 → sumBy f (replicate n 0) ≡ 0
 unfolding sumBy

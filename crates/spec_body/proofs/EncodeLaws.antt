@@ -58,6 +58,21 @@ unfolding encodeOperands
 operands-none zero words k = refl
 operands-none (suc n) words k = refl
 
+-- what operands that are encoded are made of
+prepended-bytes : {P : Type 0} (b : List ℕ) (o : Operands) (os : List ℕ) → prependBytes b o ≡ bytes os → ((ms : List ℕ) → o ≡ bytes ms → b ++ ms ≡ os → P) → P
+unfolding prependBytes
+prepended-bytes b (bytes ms) os e then = then ms refl (cc e)
+prepended-bytes b (misfit n) os e then = absurd (let z : _≡_ {A = ℕ} 0 1 = cc e in omega arith)
+
+pub operand-then : {P : Type 0} (cs words : List ℕ) (k c : ℕ) (os : List ℕ) → 0 < c → encodeOperands (c ∷ cs) words k ≡ bytes os
+    → ((v : ℕ) (ms : List ℕ) → encodeOperand c (getD words 0 0) (getD words 1 0) ≡ is v → encodeOperands cs (drop 2 words) (k + 1) ≡ bytes ms → leBytes (widthOf c) v ++ ms ≡ os → P)
+    → P
+operand-then {P} cs words k c os h e then = go (encodeOperand c (getD words 0 0) (getD words 1 0)) refl
+  where
+    go : (p : Parsed) → encodeOperand c (getD words 0 0) (getD words 1 0) ≡ p → P
+    go (is v) w = prepended-bytes (leBytes (widthOf c) v) _ os (sym (operands-more cs words k c v h w) ∙ e) (λ ms x y. then v ms w x y)
+    go bad w = absurd (let z : _≡_ {A = ℕ} 0 1 = cc (sym (operands-misfit cs words k c h w) ∙ e) in omega arith)
+
 -- one record: its shape is bad, its opcode is beyond the largest, its count is wrong, or it comes down to its operands
 module _ (types : List (List ℕ)) (last i : ℕ) (r : List ℕ) (rest : Encoded) where
   pub record-bad : goodShape r ≡ false → encodeRecord types last i r rest ≡ refused 15 i 0

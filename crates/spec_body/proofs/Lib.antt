@@ -5,3 +5,4 @@ pub mod EncodeLaws
 pub mod RowLaws
 pub mod ReencodeLaws
 pub mod RedecodeLaws
+pub mod LimitLaws

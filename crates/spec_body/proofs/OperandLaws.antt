@@ -18,11 +18,11 @@ use Rattle.spec_sheet.specs.Types.{widthOf, familyOf, kindOf}
 use Rattle.spec_body.specs.Encode.{kindWidths, goodPair, encodeUnsigned, encodeAddr8, encodeSigned32, encodeDouble, encodeOperand}
 
 -- a test that holds of n numbers from k on, by computing
-abbrev everyFrom : (ℕ → Bool) → ℕ → ℕ → Bool
+abbrev pub everyFrom : (ℕ → Bool) → ℕ → ℕ → Bool
 everyFrom p k zero = true
 everyFrom p k (suc n) = both (p k) (everyFrom p (suc k) n)
 
-every : (p : ℕ → Bool) (k n : ℕ) → everyFrom p k n ≡ true → (c : ℕ) → k ≤ c → c < k + n → p c ≡ true
+pub every : (p : ℕ → Bool) (k n : ℕ) → everyFrom p k n ≡ true → (c : ℕ) → k ≤ c → c < k + n → p c ≡ true
 every p k zero e c h l = absurd (omega arith)
 every p k (suc n) e c h l =
     by-eqb c k (λ q. rw q (both-left (p k) _ e)) (λ q. every p (suc k) n (both-right (p k) _ e) c (omega (arith, q)) (omega arith))

@@ -13,8 +13,7 @@ use Rattle.lists.specs.Choice.{pick, both}
 use Rattle.lists.specs.Scan.{Bytes, part}
 use Rattle.lists.proofs.Tests.{both-left, both-right}
 use Rattle.spec_numbers.specs.LittleEndian.{le, leBytes}
-use Rattle.spec_numbers.specs.Parse.{Parsed}
-use Rattle.spec_numbers.specs.Parse.Parsed.{is, bad}
+use Rattle.spec_numbers.specs.Parse.Parsed.{is}
 use Rattle.spec_numbers.proofs.ByteLaws.{le-leBytes, length-leBytes}
 use Rattle.spec_sheet.specs.Types.{widthOf, kindOf}
 use Rattle.spec_sheet.proofs.OpLaws.{TypeCodes}
@@ -22,14 +21,14 @@ use Rattle.spec_sheet.proofs.OpLaws.TypeCodes.{none, one}
 use Rattle.spec_body.specs.Record.{sumBy, widths, lengthOf, countOf, pairs, recordOf, join, recordWords}
 use Rattle.spec_body.specs.Decode.{Decoded, decodeBody, rowAt}
 use Rattle.spec_body.specs.Decode.Decoded.{decoded}
-use Rattle.spec_body.specs.Encode.{kindWidths, goodPair, goodPairs, goodShape, Operands, prependBytes, encodeOperand, encodeOperands, Encoded, encodeRecords}
-use Rattle.spec_body.specs.Encode.Operands.{bytes, misfit}
+use Rattle.spec_body.specs.Encode.{kindWidths, goodPair, goodPairs, goodShape, encodeOperand, encodeOperands, Encoded, encodeRecords}
+use Rattle.spec_body.specs.Encode.Operands.{bytes}
 use Rattle.spec_body.specs.Encode.Encoded.{encoded}
 use Rattle.spec_body.specs.Recode.{numberOf, writtenBits, recodedPairs, recodedRecord, recodedFrom, recoded}
 use Rattle.spec_body.proofs.DecodeLaws.{Decoding, body-decoded}
 use Rattle.spec_body.proofs.DecodeLaws.Decoding.{ended, more}
 use Rattle.spec_body.proofs.OperandLaws.{no-zero, kept, kind-width, pair-bound, written-fits}
-use Rattle.spec_body.proofs.EncodeLaws.{OneEncoded, Encoding, used-pair, pairs-behind, operands-none, operands-more, operands-misfit, encoded-records}
+use Rattle.spec_body.proofs.EncodeLaws.{OneEncoded, Encoding, used-pair, pairs-behind, operands-none, operand-then, encoded-records}
 use Rattle.spec_body.proofs.EncodeLaws.Encoding.{no-record, a-record}
 use Rattle.spec_body.proofs.RowLaws.{GoodRow, GoodRows, good-widths, good-count}
 use Rattle.spec_body.proofs.ReencodeLaws.{reencoded}
@@ -40,11 +39,6 @@ pub data Written : List ℕ → List ℕ → List ℕ → Type 0 where
   an-operand : {c v : ℕ} {cs words os : List ℕ} → 0 < c → encodeOperand c (getD words 0 0) (getD words 1 0) ≡ is v → v < 256 ^ widthOf c
       → Written cs (drop 2 words) os → Written (c ∷ cs) words (leBytes (widthOf c) v ++ os)
 
-prepended-bytes : {P : Type 0} (b : List ℕ) (o : Operands) (os : List ℕ) → prependBytes b o ≡ bytes os → ((ms : List ℕ) → o ≡ bytes ms → b ++ ms ≡ os → P) → P
-unfolding prependBytes
-prepended-bytes b (bytes ms) os e then = then ms refl (cc e)
-prepended-bytes b (misfit n) os e then = absurd (let z : _≡_ {A = ℕ} 0 1 = cc e in omega arith)
-
 operands-written : {cs : List ℕ} → TypeCodes cs → (m n k : ℕ) (words os : List ℕ) → m ≡ length cs + n → goodPairs m (length cs) words ≡ true
     → encodeOperands (cs ++ replicate n 0) words k ≡ bytes os → Written cs words os
 operands-written none m n k words os q g e =
@@ -52,14 +46,9 @@ operands-written none m n k words os q g e =
     rw z no-operand
 operands-written (one l h t) zero n k words os q g e = absurd (omega arith)
 operands-written (one {c} {cs} l h t) (suc m) n k words os q g e =
-    go (λ ms. operands-written t m n (k + 1) (drop 2 words) ms (omega arith) (pairs-behind m words (length cs) g)) (encodeOperand c (getD words 0 0) (getD words 1 0)) refl
-  where
-    go : ((ms : List ℕ) → encodeOperands (cs ++ replicate n 0) (drop 2 words) (k + 1) ≡ bytes ms → Written cs (drop 2 words) ms)
-        → (p : Parsed) → encodeOperand c (getD words 0 0) (getD words 1 0) ≡ p → Written (c ∷ cs) words os
-    go ih (is v) w =
-        prepended-bytes (leBytes (widthOf c) v) _ os (sym (operands-more (cs ++ replicate n 0) words k c v l w) ∙ e)
-        (λ ms x y. rw (sym y) (an-operand l w (written-fits c l h _ _ v (used-pair m words (length cs) g) w) (ih ms x)))
-    go ih bad w = absurd (let z : _≡_ {A = ℕ} 0 1 = cc (sym (operands-misfit (cs ++ replicate n 0) words k c l w) ∙ e) in omega arith)
+    operand-then (cs ++ replicate n 0) words k c os l e λ v ms w x y.
+    rw (sym y)
+    (an-operand l w (written-fits c l h _ _ v (used-pair m words (length cs) g) w) (operands-written t m n (k + 1) (drop 2 words) ms (omega arith) (pairs-behind m words (length cs) g) x))
 
 written-length : {cs words os : List ℕ} → Written cs words os → length os ≡ widths cs
 unfolding sumBy

@@ -44,7 +44,7 @@ bytes-take (b ∷ s) (suc n) h (suc i) = bytes-take s n (λ j. h (suc j)) i
 part-back : (s : List ℕ) (p n : ℕ) → Bytes s → p + n ≤ length s → leBytes n (le (part s p n)) ≡ part s p n
 part-back s p n h l = ap (λ (k : ℕ). leBytes k (le (part s p n))) (sym (part-length s p n l)) ∙ leBytes-le (part s p n) (bytes-take (drop p s) n (bytes-drop s p h))
 
-part-below : (s : List ℕ) (p n : ℕ) → Bytes s → le (part s p n) < 256 ^ n
+pub part-below : (s : List ℕ) (p n : ℕ) → Bytes s → le (part s p n) < 256 ^ n
 part-below s p n h = le-bound n (drop p s) (bytes-drop s p h)
 
 -- the pairs of a record that was decoded have a good shape, and are encoded to the bytes that they were read from

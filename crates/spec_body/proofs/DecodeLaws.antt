@@ -1,7 +1,7 @@
 -- Laws of decoding, case by case, and of the sizes of records. Assumes nothing.
-use mathlib.Core.Path.{_≡_, refl, ap, sym, _∙_}
-use mathlib.Core.List.{List, [], _∷_, _++_}
-use Prim.Native.Nat.{ℕ, zero, suc, _+_, _-_, _*_, _≤_, _<_}
+use mathlib.Core.Path.{_≡_, refl, sym, _∙_}
+use mathlib.Core.List.{List, [], _∷_}
+use Prim.Native.Nat.{ℕ, zero, suc, _+_, _*_, _≤_, _<_}
 use native.Mathlib.Omega.{arith}
 use borrow.Author.Tests.{lt-ltb, le-ltb, le-leb, lt-leb}
 use lib.ListN.{length, getD, length-append}
@@ -117,3 +117,7 @@ pub decoding-whole : (types : List (List ℕ)) (last : ℕ) (s : List ℕ) {at :
     → Decoding types last s at rs → Whole rs
 decoding-whole types last s h (ended g) = none
 decoding-whole types last s h (more g l k d) = one (length-record (rowAt types s _) s _ (h _ l)) (decoding-whole types last s h d)
+
+pub body-whole : (types : List (List ℕ)) (last : ℕ) (s : List ℕ) (rs : List (List ℕ)) → ((k : ℕ) → k ≤ last → length (getD types k []) ≡ 8)
+    → decodeBody types last s ≡ decoded rs → Whole rs
+body-whole types last s rs h e = decoding-whole types last s h (body-stands types last s rs e)

@@ -6,3 +6,4 @@ pub mod RowLaws
 pub mod ReencodeLaws
 pub mod RedecodeLaws
 pub mod LimitLaws
+pub mod OutcomeLaws

@@ -1,27 +1,23 @@
 -- How large the results are: encoded bytes are bytes, and the words of decoded records have 64 bits. Assumes nothing.
-use mathlib.Core.Path.{_≡_, refl, ap, sym, _∙_}
-use mathlib.Core.Bool.{Bool, true, false}
+use mathlib.Core.Path.{_≡_, refl, ap, sym}
 use mathlib.Core.List.{List, [], _∷_, _++_}
-use Prim.Native.Nat.{ℕ, zero, suc, _+_, _*_, _/_, _^_, _≤_, _<_}
+use Prim.Native.Nat.{ℕ, zero, suc, _+_, _/_, _^_, _≤_, _<_}
 use native.Mathlib.Nat.{lt-of-lt-of-le, pow-le-pow-right}
 use native.Mathlib.Omega.{arith}
-use lib.Dec.{eqb, leb}
+use lib.Dec.{leb}
 use lib.ListN.{length, take, drop, getD, List·getD-eq-default}
 use borrow.Author.Tests.{leb-true, eq-eqb, ne-eqb}
-use Rattle.lists.specs.Choice.{pick}
-use Rattle.lists.specs.Scan.{Bytes, part}
+use Rattle.lists.specs.Scan.{Bytes}
 use Rattle.lists.proofs.Tests.{by-leb, by-eqb}
-use Rattle.spec_numbers.specs.LittleEndian.{leBytes, le}
-use Rattle.spec_numbers.specs.Parse.{Parsed}
-use Rattle.spec_numbers.specs.Parse.Parsed.{is, bad}
+use Rattle.spec_numbers.specs.LittleEndian.{leBytes}
 use Rattle.spec_numbers.proofs.ByteLaws.{leBytes-bytes}
 use Rattle.spec_sheet.specs.Types.{widths, kinds, widthOf, kindOf}
-use Rattle.spec_body.specs.Record.{sumBy, lengthOf, oneFor, countOf, pairs, recordOf, join}
-use Rattle.spec_body.specs.Decode.{Decoded, decodeBody, rowAt}
+use Rattle.spec_body.specs.Record.{sumBy, lengthOf, countOf, pairs, recordOf, join}
+use Rattle.spec_body.specs.Decode.{decodeBody, rowAt}
 use Rattle.spec_body.specs.Decode.Decoded.{decoded}
 use Rattle.spec_body.specs.Starts.{spans}
-use Rattle.spec_body.specs.Encode.{Operands, prependBytes, encodeOperand, encodeOperands, Encoded, encodeRecords}
-use Rattle.spec_body.specs.Encode.Operands.{bytes, misfit}
+use Rattle.spec_body.specs.Encode.{encodeOperands, encodeRecords}
+use Rattle.spec_body.specs.Encode.Operands.{bytes}
 use Rattle.spec_body.specs.Encode.Encoded.{encoded}
 use Rattle.spec_body.specs.Recode.{recodedFrom, recoded}
 use Rattle.spec_body.proofs.DecodeLaws.{Decoding, body-stands}

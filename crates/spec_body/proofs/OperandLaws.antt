@@ -1,14 +1,14 @@
 -- Laws of one operand's value, over the twelve types. Assumes nothing.
-use mathlib.Core.Path.{_≡_, refl, ap, sym, _∙_}
+use mathlib.Core.Path.{_≡_, refl}
 use mathlib.Core.Bool.{Bool, true, false}
-use Prim.Native.Nat.{ℕ, zero, suc, _+_, _-_, _%_, _^_, _≤_, _<_}
+use Prim.Native.Nat.{ℕ, zero, suc, _+_, _%_, _^_, _≤_, _<_}
 use native.Mathlib.Nat.{lt-of-lt-of-le, pow-le-pow-right}
 use native.Mathlib.Omega.{arith}
 use lib.Dec.{eqb, leb, ltb}
 use lib.ListN.{getD}
 use borrow.Author.Tests.{eqb-true, leb-true, ltb-true, lt-ltb, ne-eqb}
 use Rattle.lists.specs.Choice.{pick, both, either}
-use Rattle.lists.proofs.Tests.{by-test, by-leb, by-eqb, both-left, both-right, both-yes, true-not-false}
+use Rattle.lists.proofs.Tests.{by-test, by-leb, by-eqb, both-left, both-right, both-yes}
 use Rattle.spec_numbers.specs.TwosComplement.{extend8}
 use Rattle.spec_numbers.specs.Parse.{Parsed}
 use Rattle.spec_numbers.specs.Parse.Parsed.{is, bad}

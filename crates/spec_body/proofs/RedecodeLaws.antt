@@ -1,6 +1,6 @@
 -- The bytes of records that were encoded are decoded to the same records, their offsets and lengths anew. Assumes nothing.
 use mathlib.Core.Path.{_≡_, refl, ap, sym, _∙_}
-use mathlib.Core.Bool.{Bool, true, false}
+use mathlib.Core.Bool.{true}
 use mathlib.Core.List.{List, [], _∷_, _++_, append-assoc}
 use Prim.Native.Nat.{ℕ, zero, suc, _+_, _-_, _*_, _/_, _^_, _≤_, _<_}
 use native.Mathlib.Nat.{add-zero}
@@ -9,7 +9,7 @@ use lib.Dec.{leb, eqb}
 use lib.ListN.{length, take, drop, getD, replicate, length-append, length-drop}
 use lib.Seq.{drop-drop, take-at, drop-at, getD-drop}
 use borrow.Author.Tests.{eqb-true}
-use Rattle.lists.specs.Choice.{pick, both}
+use Rattle.lists.specs.Choice.{both}
 use Rattle.lists.specs.Scan.{Bytes, part}
 use Rattle.lists.proofs.Tests.{both-left, both-right}
 use Rattle.spec_numbers.specs.LittleEndian.{le, leBytes}
@@ -18,10 +18,10 @@ use Rattle.spec_numbers.proofs.ByteLaws.{le-leBytes, length-leBytes}
 use Rattle.spec_sheet.specs.Types.{widthOf, kindOf}
 use Rattle.spec_sheet.proofs.OpLaws.{TypeCodes}
 use Rattle.spec_sheet.proofs.OpLaws.TypeCodes.{none, one}
-use Rattle.spec_body.specs.Record.{sumBy, widths, lengthOf, countOf, pairs, recordOf, join, recordWords}
-use Rattle.spec_body.specs.Decode.{Decoded, decodeBody, rowAt}
+use Rattle.spec_body.specs.Record.{sumBy, widths, lengthOf, pairs, recordOf, join, recordWords}
+use Rattle.spec_body.specs.Decode.{decodeBody, rowAt}
 use Rattle.spec_body.specs.Decode.Decoded.{decoded}
-use Rattle.spec_body.specs.Encode.{kindWidths, goodPair, goodPairs, goodShape, encodeOperand, encodeOperands, Encoded, encodeRecords}
+use Rattle.spec_body.specs.Encode.{kindWidths, goodPairs, goodShape, encodeOperand, encodeOperands, encodeRecords}
 use Rattle.spec_body.specs.Encode.Operands.{bytes}
 use Rattle.spec_body.specs.Encode.Encoded.{encoded}
 use Rattle.spec_body.specs.Recode.{numberOf, writtenBits, recodedPairs, recodedRecord, recodedFrom, recoded}

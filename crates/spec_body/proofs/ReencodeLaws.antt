@@ -1,15 +1,14 @@
 -- The records of a body that was decoded are encoded to the body. Assumes nothing.
 use mathlib.Core.Path.{_≡_, refl, ap, sym, _∙_}
-use mathlib.Core.Bool.{Bool, true, false}
+use mathlib.Core.Bool.{true}
 use mathlib.Core.List.{List, [], _∷_, _++_}
-use Prim.Native.Nat.{ℕ, zero, suc, _+_, _-_, _*_, _^_, _≤_, _<_}
+use Prim.Native.Nat.{ℕ, zero, suc, _+_, _-_, _^_, _≤_, _<_}
 use native.Mathlib.Omega.{arith}
 use native.Mathlib.Numerals.{add-one}
 use lib.Dec.{leb}
-use lib.ListN.{length, take, drop, getD, replicate, length-append, take-append-drop, drop-of-length-le}
-use lib.Seq.{take-add, drop-drop, take-at, drop-at, drop-cons}
+use lib.ListN.{length, take, drop, getD, replicate, take-append-drop, drop-of-length-le}
+use lib.Seq.{take-add, drop-drop, drop-cons}
 use borrow.Author.Tests.{le-leb}
-use Rattle.lists.specs.Choice.{pick, both}
 use Rattle.lists.specs.Scan.{Bytes, part}
 use Rattle.lists.proofs.Tests.{both-yes}
 use Rattle.lists.proofs.Parts.{bytes-drop, part-length}
@@ -19,14 +18,14 @@ use Rattle.spec_sheet.specs.Types.{widthOf, kindOf}
 use Rattle.spec_sheet.proofs.OpLaws.{TypeCodes}
 use Rattle.spec_sheet.proofs.OpLaws.TypeCodes.{none, one}
 use Rattle.spec_body.specs.Record.{sumBy, widths, lengthOf, countOf, pairs, recordOf, join}
-use Rattle.spec_body.specs.Decode.{Decoded, decodeBody, rowAt}
+use Rattle.spec_body.specs.Decode.{decodeBody, rowAt}
 use Rattle.spec_body.specs.Decode.Decoded.{decoded}
-use Rattle.spec_body.specs.Encode.{goodPair, goodPairs, goodShape, prependBytes, encodeOperands, Encoded, encodeRecords}
+use Rattle.spec_body.specs.Encode.{goodPair, goodPairs, goodShape, prependBytes, encodeOperands, encodeRecords}
 use Rattle.spec_body.specs.Encode.Operands.{bytes}
 use Rattle.spec_body.specs.Encode.Encoded.{encoded}
 use Rattle.spec_body.proofs.DecodeLaws.{Decoding, body-stands, length-record}
 use Rattle.spec_body.proofs.DecodeLaws.Decoding.{ended, more}
-use Rattle.spec_body.proofs.OperandLaws.{no-zero, typed-pair, kept}
+use Rattle.spec_body.proofs.OperandLaws.{typed-pair, kept}
 use Rattle.spec_body.proofs.EncodeLaws.{OneEncoded, Encoding, pairs-used, operands-more, operands-none, one-more, records-encoded}
 use Rattle.spec_body.proofs.EncodeLaws.Encoding.{no-record}
 use Rattle.spec_body.proofs.RowLaws.{GoodRow, GoodRows, good-length, good-widths, good-count}

@@ -1,12 +1,12 @@
 -- Where the records of a body start: each where the one before ends. Assumes nothing.
-use mathlib.Core.Path.{_≡_, refl, ap, sym, _∙_}
-use mathlib.Core.List.{List, [], _∷_}
+use mathlib.Core.Path.{_≡_, refl, sym}
+use mathlib.Core.List.{List, []}
 use Prim.Native.Nat.{ℕ, zero, suc, _+_, _≤_, _<_}
 use native.Mathlib.Omega.{arith}
 use lib.ListN.{length, getD}
 use Rattle.lists.proofs.Tests.{by-leb}
 use Rattle.spec_body.specs.Record.{widths}
-use Rattle.spec_body.specs.Decode.{Decoded, decodeBody, rowAt}
+use Rattle.spec_body.specs.Decode.{decodeBody, rowAt}
 use Rattle.spec_body.specs.Decode.Decoded.{decoded}
 use Rattle.spec_body.specs.Starts.{Chain, startOf, spanOf, spans}
 use Rattle.spec_body.specs.Starts.Chain.{none, one}

@@ -1,6 +1,7 @@
 pub mod DecodeLaws
 pub mod StartLaws
 pub mod OperandLaws
+pub mod ValueLaws
 pub mod EncodeLaws
 pub mod RowLaws
 pub mod ReencodeLaws

@@ -76,7 +76,7 @@ unfolding goodPair
 pair-bound kind bits e = ltb-true _ _ (both-right (leb kind 5) _ e)
 
 -- which of two readings it was
-by-choice : {P : Type 0} {v : ℕ} (t : Bool) (p q : Parsed) → pick t p q ≡ is v → (t ≡ true → p ≡ is v → P) → (t ≡ false → q ≡ is v → P) → P
+pub by-choice : {P : Type 0} {v : ℕ} (t : Bool) (p q : Parsed) → pick t p q ≡ is v → (t ≡ true → p ≡ is v → P) → (t ≡ false → q ≡ is v → P) → P
 by-choice true p q e f g = f refl e
 by-choice false p q e f g = g refl e
 

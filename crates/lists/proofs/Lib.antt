@@ -2,3 +2,4 @@ pub mod Tests
 pub mod Parts
 pub mod Scans
 pub mod Writes
+pub mod LeftToWrite

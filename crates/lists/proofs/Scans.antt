@@ -61,6 +61,23 @@ module _ (p : ℕ → Bool) where
   all-append (a ∷ s) t e f =
       both-yes (p a) (all p (s ++ t)) (both-left (p a) (all p s) e) (all-append s t (both-right (p a) (all p s) e) f)
 
+-- every element passes, from an index on
+module _ (p : ℕ → Bool) (s : List ℕ) (i : ℕ) where
+  -- an element passes
+  pub all-go : i < length s → p (getD s i 0) ≡ true → all p (drop i s) ≡ all p (drop (i + 1) s)
+  unfolding all
+  all-go h e = rw (add-one i, drop-cons s i 0 h, e)
+
+  -- an element does not
+  pub all-stop : i < length s → p (getD s i 0) ≡ false → all p (drop i s) ≡ false
+  unfolding all
+  all-stop h e = rw (drop-cons s i 0 h, e)
+
+  -- at the end
+  pub all-end : length s ≤ i → all p (drop i s) ≡ true
+  unfolding all
+  all-end h = rw (drop-of-length-le s h)
+
 -- `same` is equality
 pub same-refl : (s : List ℕ) → same s s ≡ true
 unfolding same

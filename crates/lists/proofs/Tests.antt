@@ -4,8 +4,8 @@ use Prim.Native.Nat.{ℕ, _≤_, _<_}
 use native.Mathlib.Omega.{arith}
 use mathlib.Core.Bool.{Bool, true, false, not}
 use lib.Dec.{leb, eqb}
-use borrow.Author.Tests.{leb-true, leb-false, eqb-true, eqb-false}
-use Rattle.lists.specs.Choice.{both, either}
+use borrow.Author.Tests.{le-leb, lt-leb, leb-true, leb-false, eqb-true, eqb-false}
+use Rattle.lists.specs.Choice.{both, within}
 
 pub true-not-false : {P : Type 0} (a : Bool) → a ≡ true → a ≡ false → P
 true-not-false a e f = absurd (let z : _≡_ {A = ℕ} 0 1 = cc in omega arith)
@@ -31,6 +31,27 @@ both-no-right false b e = refl
 pub not-true : (a : Bool) → not a ≡ true → a ≡ false
 not-true false e = refl
 not-true true e = sym e
+
+-- a number in a range, below it and above it
+module _ (lo hi b : ℕ) where
+  -- in the range
+  pub within-yes : lo ≤ b → b ≤ hi → within lo hi b ≡ true
+  within-yes l h = rw (le-leb lo b l, le-leb b hi h)
+
+  -- below it
+  pub within-low : b < lo → within lo hi b ≡ false
+  within-low h = rw (lt-leb lo b h)
+
+  -- above it
+  pub within-high : hi < b → within lo hi b ≡ false
+  within-high h = both-no-right (leb lo b) (leb b hi) (lt-leb b hi h)
+
+  -- what a number in the range is not below, and not above
+  pub within-least : within lo hi b ≡ true → lo ≤ b
+  within-least e = leb-true lo b (both-left (leb lo b) (leb b hi) e)
+
+  pub within-most : within lo hi b ≡ true → b ≤ hi
+  within-most e = leb-true b hi (both-right (leb lo b) (leb b hi) e)
 
 -- one of two ways, by a test
 pub by-test : {P : Type 0} (a : Bool) → (a ≡ true → P) → (a ≡ false → P) → P

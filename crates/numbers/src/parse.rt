@@ -2,12 +2,11 @@
 // digit and a number that is too large, are one answer here.
 ghost use mathlib.Core.Path.{_≡_};
 ghost use Prim.Native.Nat.{_^_, _<_, _≤_};
-ghost use lib.Dec.{leb};
 ghost use lib.ListN.{length, drop};
-ghost use Rattle.lists.specs.Choice.{both};
 ghost use Rattle.spec_numbers.specs.Parse.{digitValue, digitsValue, unsignedValue, parseU32In, parseU32, parseHex, parseI32, minus, negated};
 ghost use Rattle.spec_numbers.specs.TwosComplement.{unsigned};
 ghost use Rattle.numbers.specs.Answers.{numberOf};
+use slices::compare::is_within;
 
 // A number that was read, or that the text is none.
 pub enum Number {
@@ -15,26 +14,17 @@ pub enum Number {
     Bad,
 }
 
-fn between(b: u8, low: u8, high: u8) -> bool
-    ensures { λ r. ⌜ r ≡ both (leb low b) (leb b high) ⌝ }
-{
-    if low <= b {
-        return b <= high;
-    }
-    false
-}
-
 // What a byte is worth as a digit; 16 for a byte that is no digit.
 pub fn digit_value(b: u8) -> u8
     ensures { λ r. ⌜ r ≡ digitValue b ⌝ }
 {
-    if between(b, 48, 57) {
+    if is_within(48, 57, b) {
         return b - 48;
     }
-    if between(b, 97, 102) {
+    if is_within(97, 102, b) {
         return b - 87;
     }
-    if between(b, 65, 70) {
+    if is_within(65, 70, b) {
         return b - 55;
     }
     16

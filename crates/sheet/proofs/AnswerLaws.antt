@@ -1,15 +1,11 @@
 -- From an answer back to what its definition gives. Assumes nothing.
-use mathlib.Core.Path.{_≡_, refl, ap, sym, _∙_}
+use mathlib.Core.Path.{_≡_, refl}
 use Prim.Native.Nat.{ℕ}
 use native.Mathlib.Omega.{arith}
 use Rattle.spec_sheet.specs.Scan.{Step}
 use Rattle.spec_sheet.specs.Scan.Step.{next, off}
 use Rattle.sheet.specs.declared.scan.Step.the-variants.{Next, Off}
-use Rattle.lists.specs.Found.{Found}
-use Rattle.lists.specs.Found.Found.{found, missing}
 use Rattle.sheet.specs.Answers.{stepOf}
-use Rattle.sheet.specs.Sheets.{foundOf}
-use Rattle.sheet.specs.declared.opcode.Found.the-variants.{At, Missing}
 
 pub was-next : (x : Step) {v a : ℕ} → stepOf x ≡ Next v a → x ≡ next v a
 unfolding stepOf
@@ -29,14 +25,3 @@ next-is v a = refl
 pub off-is : Off ≡ stepOf off
 unfolding stepOf
 off-is = refl
-
--- from the answer of a search back to what was found
-pub was-at : (x : Found) {k : ℕ} → foundOf x ≡ At k → x ≡ found k
-unfolding foundOf
-was-at (found j) {k} e = let p : j ≡ k = cc in ap found p
-was-at missing e = let z : _≡_ {A = ℕ} 0 1 = cc in absurd (omega arith)
-
-pub was-missing : (x : Found) → foundOf x ≡ Missing → x ≡ missing
-unfolding foundOf
-was-missing (found j) e = let z : _≡_ {A = ℕ} 0 1 = cc in absurd (omega arith)
-was-missing missing e = refl

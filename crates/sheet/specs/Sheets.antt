@@ -2,9 +2,7 @@
 use Prim.Native.Nat.{ℕ, zero}
 use mathlib.Core.List.{List}
 use lib.ListN.{length, set}
-use Rattle.lists.specs.Found as search
-use Rattle.lists.specs.Found.Found.{found, missing}
-use Rattle.spec_sheet.specs.Line.{Op, LineRead, typeRow, infoRow}
+use Rattle.spec_sheet.specs.Line.{LineRead, typeRow, infoRow}
 use Rattle.spec_sheet.specs.Line.LineRead.{line, noLine}
 use Rattle.spec_sheet.specs.Sheet as spec
 use Rattle.spec_sheet.specs.Sheet.{typeRows, infoRows, noTypeRows, noInfoRows, above}
@@ -16,13 +14,6 @@ use Rattle.sheet.specs.declared.opcode.Ops.{Ops}
 use Rattle.sheet.specs.declared.opcode.Ops.the-variants.{All, FaultAfter}
 use Rattle.sheet.specs.declared.opcode.Sheet.{Sheet}
 use Rattle.sheet.specs.declared.opcode.Sheet.the-variants.{Read, Malformed}
-use Rattle.sheet.specs.declared.opcode.Found.{Found}
-use Rattle.sheet.specs.declared.opcode.Found.the-variants.{At, Missing}
-
--- what a search for a name answers
-unfoldable pub foundOf : search.Found → Found
-foundOf (found k) = At k
-foundOf missing = Missing
 
 -- an opcode line that was stored: the opcode and the place behind it, and the two tables
 unfoldable pub turnOf : LineRead → Step

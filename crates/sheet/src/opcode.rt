@@ -7,17 +7,13 @@ ghost use lib.ListN.{take};
 ghost use mathlib.Core.Bool.{Bool};
 ghost use mathlib.Core.List.{List, []};
 ghost use Rattle.lists.specs.Scan.{part};
+ghost use Rattle.slices.specs.Answers.{foundOf};
 ghost use Rattle.spec_sheet.specs.Line.{Op, lineAt};
 ghost use Rattle.spec_sheet.specs.Sheet.{hasName, findName, mayFollow, accepted, opsFrom, noTypeRows, noInfoRows, typeRows, infoRows, sheetAt, sheetOf};
 ghost use Rattle.spec_sheet.specs.Sheet.OpsRead.{allRead};
-ghost use Rattle.sheet.specs.Sheets.{foundOf, turnOf, typesStored, infosStored, opsOf, sheetAnswer, typesIn, infosIn};
+ghost use Rattle.sheet.specs.Sheets.{turnOf, typesStored, infosStored, opsOf, sheetAnswer, typesIn, infosIn};
 use crate::scan::Step;
-
-// The opcode that has a name, or that none has.
-pub enum Found {
-    At(usize),
-    Missing,
-}
+use slices::search::Found;
 
 // Whether an opcode has this name.
 fn has_name(s: &[u8], name: &[u8], row: [usize; 4]) -> bool

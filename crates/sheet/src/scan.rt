@@ -5,9 +5,10 @@ ghost use lib.ListN.{length, drop, getD};
 ghost use Rattle.lists.specs.Scan.{run};
 ghost use Rattle.spec_sheet.specs.Scan.{literalAt, isUpper, isNameByte, numberAt, keyedAt, mayBeName, nameAt, typeAt};
 ghost use Rattle.sheet.specs.Answers.{stepOf, isWordByte};
-ghost use Rattle.lists.specs.Choice.{both, within};
+ghost use Rattle.lists.specs.Choice.{both};
 ghost use lib.Dec.{eqb, ltb};
 use numbers::parse::Number;
+use slices::compare::is_within;
 
 pub enum Step {
     Next(u64, usize),
@@ -29,13 +30,6 @@ pub fn literal_at(s: &[u8], at: usize, p: &[u8]) -> Step
         return Step::Next(0, at + p.len());
     }
     Step::Off
-}
-
-// Whether a byte is from lo to hi.
-fn is_within(lo: u8, hi: u8, b: u8) -> bool
-    ensures { λ r. ⌜ r ≡ within lo hi b ⌝ }
-{
-    if lo <= b { b <= hi } else { false }
 }
 
 pub fn is_name_byte(b: u8) -> bool

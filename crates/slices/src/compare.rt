@@ -1,7 +1,15 @@
 // Comparing bytes.
 ghost use mathlib.Core.Path.{_≡_};
 ghost use lib.ListN.{drop};
+ghost use Rattle.lists.specs.Choice.{within};
 ghost use Rattle.lists.specs.Scan.{same, opens};
+
+// Whether a byte is from lo to hi.
+pub fn is_within(lo: u8, hi: u8, b: u8) -> bool
+    ensures { λ r. ⌜ r ≡ within lo hi b ⌝ }
+{
+    if lo <= b { b <= hi } else { false }
+}
 
 // Whether two slices hold the same bytes. Lengths are compared first.
 pub fn same_bytes(s: &[u8], t: &[u8]) -> bool

@@ -43,10 +43,6 @@ value-range b h = (
       (λ l. absurd (let q : 16 < 16 = rw (le-leb 48 b (omega arith), lt-leb b 57 (omega arith), le-leb 97 b (omega arith), lt-leb b 102 l, le-leb 65 b (omega arith), lt-leb b 70 (omega arith)) at h in omega arith)),
 )
 
--- the lower end of a range that a byte is in
-pub range-low : (low b high : ℕ) → both (leb low b) (leb b high) ≡ true → low ≤ b
-range-low low b high e = leb-true low b (both-left (leb low b) (leb b high) e)
-
 module _ (base most n : ℕ) where
   -- a byte more
   module _ (b : ℕ) (s : List ℕ) where

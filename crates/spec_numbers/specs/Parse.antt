@@ -4,7 +4,7 @@ use mathlib.Core.Bool.{Bool, true, false}
 use mathlib.Core.List.{List, [], _∷_}
 use lib.Dec.{ltb, leb, eqb}
 use lib.IntN.{ℤ, pos, negsuc}
-use Rattle.lists.specs.Choice.{pick, both}
+use Rattle.lists.specs.Choice.{pick, both, within}
 use Rattle.spec_numbers.specs.TwosComplement.{unsigned}
 
 -- a number that was read, or that the text is none
@@ -15,9 +15,9 @@ pub data Parsed : Type 0 where
 -- what a byte is worth as a digit, of either case; 16 for a byte that is no digit
 unfoldable pub digitValue : ℕ → ℕ
 digitValue b =
-    pick (both (leb 48 b) (leb b 57)) (b - 48)
-    (pick (both (leb 97 b) (leb b 102)) (b - 87)
-    (pick (both (leb 65 b) (leb b 70)) (b - 55) 16))
+    pick (within 48 57 b) (b - 48)
+    (pick (within 97 102 b) (b - 87)
+    (pick (within 65 70 b) (b - 55) 16))
 
 -- digits behind a number n that was read already: no byte but a digit of the base, and nothing past `most`
 unfoldable pub digitsValue : ℕ → ℕ → ℕ → List ℕ → Parsed

@@ -4,12 +4,12 @@ use mathlib.Core.Bool.{Bool, true, false}
 use Prim.Native.Nat.{ℕ, zero, suc, _*_, _^_, _≤_, _<_}
 use native.Mathlib.Omega.{arith}
 use mathlib.Core.List.{List, [], _∷_}
-use lib.Dec.{eqb, leb}
-use borrow.Author.Tests.{eqb-true, eqb-false, ne-eqb, lt-ltb, le-ltb, leb-true}
+use lib.Dec.{eqb}
+use borrow.Author.Tests.{eqb-true, eqb-false, ne-eqb, lt-ltb, le-ltb}
 use lib.ListN.{length, length-append}
-use Rattle.lists.specs.Choice.{pick, either}
-use Rattle.lists.proofs.Tests.{by-test, by-leb, by-eqb, both-right}
-use Rattle.spec_strings.specs.Utf8.{within, broken, afterLead, afterNext, step, leadBits, bitsAfter, charsFrom}
+use Rattle.lists.specs.Choice.{pick, either, within}
+use Rattle.lists.proofs.Tests.{by-test, by-leb, by-eqb, within-most}
+use Rattle.spec_strings.specs.Utf8.{broken, afterLead, afterNext, step, leadBits, bitsAfter, charsFrom}
 use Rattle.spec_strings.specs.Escape.{escapeAll, escapeText}
 use Rattle.spec_strings.proofs.Utf8Laws.{step-broken, step-ascii, lead-stray, lead-two, lead-three, lead-four, lead-past}
 use Rattle.spec_strings.proofs.EscapeLaws.{escape-length}
@@ -35,7 +35,7 @@ kept false to h = absurd (h refl)
 kept-most : (lo hi b to : ℕ) → (pick (within lo hi b) to broken ≡ broken → ⊥) → b ≤ hi
 kept-most lo hi b to h =
     by-test (within lo hi b)
-    (λ t. leb-true b hi (both-right (leb lo b) (leb b hi) t))
+    (within-most lo hi b)
     (λ t. absurd (h (rw t)))
 
 never : {P : Type 0} (t : Bool) (to : ℕ) → pick t (suc to) broken ≡ 0 → P

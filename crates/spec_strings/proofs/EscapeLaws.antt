@@ -4,20 +4,19 @@ use mathlib.Core.Bool.{Bool, true, false, not}
 use Prim.Native.Nat.{ℕ, suc, _+_, _-_, _*_, _^_, _≤_, _<_}
 use native.Mathlib.Omega.{arith}
 use mathlib.Core.List.{List, [], _∷_, _++_, append-nil}
-use lib.Dec.{eqb, leb}
-use borrow.Author.Tests.{ne-eqb, le-leb, lt-leb, lt-ltb, leb-true, eqb-false}
+use lib.Dec.{eqb}
+use borrow.Author.Tests.{ne-eqb, le-leb, lt-leb, lt-ltb, eqb-false}
 use lib.ListN.{length, getD, length-append}
 use lib.Seq.{getD-append-add}
-use Rattle.lists.specs.Choice.{pick, both}
+use Rattle.lists.specs.Choice.{pick, both, within}
 use Rattle.lists.specs.Scan.{all}
-use Rattle.lists.proofs.Tests.{both-left, both-right, both-yes, both-no-left, by-eqb, by-leb, not-true}
+use Rattle.lists.proofs.Tests.{both-left, both-right, both-yes, both-no-left, by-eqb, by-leb, not-true, within-low, within-high, within-least, within-most}
 use Rattle.lists.proofs.Scans.{all-append}
 use Rattle.spec_numbers.specs.Print.{hexUpper, hexUpper4}
 use Rattle.spec_numbers.proofs.PrintLaws.{digits-few, padded-length}
-use Rattle.spec_strings.specs.Utf8.{within}
 use Rattle.spec_strings.specs.Escape.{escaped, unicode, escape, escapeAll, escapeText, meant, unescape}
 use Rattle.spec_strings.specs.Plain.{plainByte, plain}
-use Rattle.spec_strings.proofs.Utf8Laws.{ascii, ascii-chars, within-low, within-high}
+use Rattle.spec_strings.proofs.Utf8Laws.{ascii, ascii-chars}
 
 -- a character without a short escape
 pub escape-long : (c : ℕ) → (c ≡ 34 → ⊥) → (c ≡ 92 → ⊥) → (c ≡ 10 → ⊥) → (c ≡ 13 → ⊥) → (c ≡ 9 → ⊥) → (c ≡ 0 → ⊥)
@@ -70,7 +69,7 @@ kind b e =
     let q : both (within 32 126 b) (not (eqb b 34)) ≡ true = sym (plain-rest b n9 n10 n13) ∙ e in
     let w : within 32 126 b ≡ true = both-left (within 32 126 b) (not (eqb b 34)) q in
     let n : eqb b 34 ≡ false = not-true (eqb b 34) (both-right (within 32 126 b) (not (eqb b 34)) q) in
-    shown b (leb-true 32 b (both-left (leb 32 b) (leb b 126) w)) (leb-true b 126 (both-right (leb 32 b) (leb b 126) w)) (eqb-false b 34 n) n92))))
+    shown b (within-least 32 126 b w) (within-most 32 126 b w) (eqb-false b 34 n) n92))))
 
 -- a plain byte is ASCII, its escape is read back, and is one or two bytes of 32 to 126 without a quote
 kind-ascii : {b : ℕ} → Kind b → ascii b ≡ true

@@ -4,28 +4,14 @@ use mathlib.Core.Bool.{Bool, true, false}
 use Prim.Native.Nat.{ℕ, _+_, _≤_, _<_}
 use native.Mathlib.Numerals.{add-one}
 use mathlib.Core.List.{List, [], _∷_, _++_}
-use lib.Dec.{eqb, ltb, leb}
+use lib.Dec.{eqb, ltb}
 use native.Mathlib.Omega.{arith}
-use borrow.Author.Tests.{ne-eqb, lt-ltb, le-ltb, ltb-true, eqb-true, le-leb, lt-leb}
+use borrow.Author.Tests.{ne-eqb, lt-ltb, le-ltb, ltb-true, eqb-true}
 use lib.ListN.{length, drop, getD, drop-of-length-le}
 use lib.Seq.{drop-cons}
 use Rattle.lists.specs.Scan.{all}
-use Rattle.lists.proofs.Tests.{both-left, both-right, both-no-right}
-use Rattle.spec_strings.specs.Utf8.{within, broken, afterLead, afterNext, step, utf8From, isUtf8, leadBits, bitsAfter, charsFrom, chars}
-
--- a number in a range, below it and above it
-module _ (lo hi b : ℕ) where
-  -- in the range
-  pub within-yes : lo ≤ b → b ≤ hi → within lo hi b ≡ true
-  within-yes l h = rw (le-leb lo b l, le-leb b hi h)
-
-  -- below it
-  pub within-low : b < lo → within lo hi b ≡ false
-  within-low h = rw (lt-leb lo b h)
-
-  -- above it
-  pub within-high : hi < b → within lo hi b ≡ false
-  within-high h = both-no-right (leb lo b) (leb b hi) (lt-leb b hi h)
+use Rattle.lists.proofs.Tests.{both-left, both-right, within-yes, within-low, within-high}
+use Rattle.spec_strings.specs.Utf8.{broken, afterLead, afterNext, step, utf8From, isUtf8, leadBits, bitsAfter, charsFrom, chars}
 
 -- behind a first byte, by the ranges that are not one byte alone
 module _ (b : ℕ) where

@@ -3,9 +3,9 @@ use Prim.Native.Nat.{ℕ, _+_}
 use mathlib.Core.Bool.{Bool, true, false}
 use mathlib.Core.List.{List, [], _∷_, _++_}
 use lib.Dec.{eqb, leb, ltb}
-use Rattle.lists.specs.Choice.{pick}
+use Rattle.lists.specs.Choice.{pick, within}
 use Rattle.spec_numbers.specs.Print.{hexUpper, hexUpper4}
-use Rattle.spec_strings.specs.Utf8.{chars, within}
+use Rattle.spec_strings.specs.Utf8.{chars}
 
 -- a backslash and one character
 abbrev pub escaped : ℕ → List ℕ

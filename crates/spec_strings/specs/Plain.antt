@@ -4,9 +4,8 @@ use mathlib.Core.Bool.{Bool, true, false, not}
 use mathlib.Core.List.{List}
 use lib.Dec.{eqb}
 use lib.ListN.{length, getD}
-use Rattle.lists.specs.Choice.{both, either}
+use Rattle.lists.specs.Choice.{both, either, within}
 use Rattle.lists.specs.Scan.{all}
-use Rattle.spec_strings.specs.Utf8.{within}
 
 -- "bytes 9, 10, 13, 32 to 126 but no 34"
 unfoldable pub plainByte : ℕ → Bool

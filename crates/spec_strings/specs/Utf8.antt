@@ -2,12 +2,8 @@
 use Prim.Native.Nat.{ℕ, zero, suc, _+_, _-_, _*_}
 use mathlib.Core.Bool.{Bool, true, false}
 use mathlib.Core.List.{List, [], _∷_}
-use lib.Dec.{eqb, leb, ltb}
-use Rattle.lists.specs.Choice.{pick, both}
-
--- a byte from lo to hi
-abbrev pub within : ℕ → ℕ → ℕ → Bool
-within lo hi b = both (leb lo b) (leb b hi)
+use lib.Dec.{eqb, ltb}
+use Rattle.lists.specs.Choice.{pick, within}
 
 -- Where a reader stands: 0 between characters; 1, 2, 3 with so many continuation bytes to come;
 -- 4 behind E0 (no overlong form), 5 behind ED (no surrogate), 6 behind F0 (no overlong form),

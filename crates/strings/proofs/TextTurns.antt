@@ -8,7 +8,6 @@ use lib.Dec.{eqb}
 use borrow.Author.Tests.{ne-eqb, eqb-true}
 use lib.ListN.{length, drop, getD, drop-of-length-le}
 use lib.Seq.{drop-cons}
-use Rattle.lists.specs.Scan.{all}
 use Rattle.lists.proofs.Tests.{by-test}
 use Rattle.spec_strings.specs.Utf8.{broken, step, bitsAfter, charsFrom}
 use Rattle.spec_strings.specs.Escape.{escapeAll, unescape}
@@ -59,20 +58,3 @@ module _ (s : List ℕ) (i : ℕ) where
   pub read-end : (slash : Bool) → length s ≤ i → unescape slash (drop i s) ≡ []
   unfolding unescape
   read-end slash h = rw (drop-of-length-le s h)
-
--- every element passes, from an index on
-module _ (p : ℕ → Bool) (s : List ℕ) (i : ℕ) where
-  -- an element passes
-  pub all-go : i < length s → p (getD s i 0) ≡ true → all p (drop i s) ≡ all p (drop (i + 1) s)
-  unfolding all
-  all-go h e = rw (add-one i, drop-cons s i 0 h, e)
-
-  -- an element does not
-  pub all-stop : i < length s → p (getD s i 0) ≡ false → all p (drop i s) ≡ false
-  unfolding all
-  all-stop h e = rw (drop-cons s i 0 h, e)
-
-  -- at the end
-  pub all-end : length s ≤ i → all p (drop i s) ≡ true
-  unfolding all
-  all-end h = rw (drop-of-length-le s h)

@@ -4,18 +4,9 @@ use mathlib.Core.List.{List}
 use lib.Dec.{ltb}
 use lib.ListN.{length}
 use Rattle.lists.specs.Choice.{pick}
-use Rattle.lists.specs.Found as lists
-use Rattle.lists.specs.Found.Found.{found, missing}
 use Rattle.spec_strings.specs.Table.{startOf, endOf}
-use Rattle.strings.specs.declared.table.Found.{Found}
-use Rattle.strings.specs.declared.table.Found.the-variants as Found
 use Rattle.strings.specs.declared.table.Entry.{Entry}
 use Rattle.strings.specs.declared.table.Entry.the-variants as Entry
-
--- what a search answers
-abbrev pub foundOf : lists.Found → Found
-foundOf (found i) = Found.At i
-foundOf missing = Found.Missing
 
 -- `string_at`: "the entry of that index, if below the count"
 unfoldable pub entryOf : List ℕ → ℕ → Entry

@@ -3,14 +3,10 @@ ghost use mathlib.Core.Path.{_≡_};
 ghost use Prim.Native.Nat.{_-_, _≤_};
 ghost use lib.ListN.{length};
 ghost use Rattle.lists.specs.Scan.{part};
+ghost use Rattle.slices.specs.Answers.{foundOf};
 ghost use Rattle.spec_strings.specs.Table.{tooLarge, fault, wellFormed, lookup};
-ghost use Rattle.strings.specs.Answers.{foundOf, entryOf};
-
-// The index that was looked for, or that there is none.
-pub enum Found {
-    At(usize),
-    Missing,
-}
+ghost use Rattle.strings.specs.Answers.{entryOf};
+use slices::search::Found;
 
 // Where a text starts and ends, or that the id is not below the count.
 pub enum Entry {

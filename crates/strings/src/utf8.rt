@@ -2,17 +2,9 @@
 ghost use mathlib.Core.Path.{_≡_};
 ghost use Prim.Native.Nat.{_≤_};
 ghost use lib.ListN.{length, drop};
-ghost use Rattle.lists.specs.Choice.{pick};
-ghost use Rattle.spec_strings.specs.Utf8.{within, broken, afterLead, afterNext, step, utf8From, isUtf8};
-
-fn is_within(lo: u8, hi: u8, b: u8) -> bool
-    ensures { λ r. ⌜ r ≡ within lo hi b ⌝ }
-{
-    if b < lo {
-        return false;
-    }
-    b <= hi
-}
+ghost use Rattle.lists.specs.Choice.{pick, within};
+ghost use Rattle.spec_strings.specs.Utf8.{broken, afterLead, afterNext, step, utf8From, isUtf8};
+use slices::compare::is_within;
 
 // The state behind the first byte of a character.
 fn after_lead(b: u8) -> u8

@@ -1,5 +1,5 @@
 use lib.ListN.{length-take}
-use Rattle.sheet.specs.Sheets.{foundOf}
+use Rattle.slices.specs.Answers.{foundOf}
 use Rattle.spec_sheet.proofs.NameLaws.{find-end, find-here, find-next}
 use Rattle.spec_sheet.specs.Sheet.{findName}
 use lib.Seq.{getD-take}
@@ -31,7 +31,6 @@ has-name-requires : tie.Need-has-name-requires Inv-loop μ-loop
 has-name-requires c κs = search needs
 
 returns : tie.Need-returns Inv-loop μ-loop
-unfolding foundOf
 returns c =
     let a = c .before .before .before .before .before .before .before .args in
     let l = c .before .before .before .before .loop in
@@ -52,7 +51,6 @@ loop-again c =
     (omega arith, l .inv .1 ∙ find-next (a .s .now) (a .name .now) (take (a .bound) (a .ops .now)) (l .k) (rw g (sym (c .before .has-name .ensures) ∙ c .if1 .left)))
 
 returns-2 : tie.Need-returns-2 Inv-loop μ-loop
-unfolding foundOf
 returns-2 c =
     let a = c .before .before .before .before .args in
     let l = c .before .loop in

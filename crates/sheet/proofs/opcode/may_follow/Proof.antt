@@ -1,4 +1,4 @@
-use Rattle.sheet.proofs.AnswerLaws.{was-at, was-missing}
+use Rattle.slices.proofs.SearchLaws.{was-at, was-missing}
 use Rattle.spec_sheet.proofs.NameLaws.{follow-low, follow-taken, follow-new}
 use Rattle.spec_sheet.specs.Sheet.{findName}
 use Rattle.lists.specs.Scan.{part}

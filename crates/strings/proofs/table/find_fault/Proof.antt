@@ -4,7 +4,7 @@ use Prim.Native.Nat.{_-_, _≤_}
 use lib.ListN.{length, drop}
 use Rattle.spec_strings.specs.Table.{faultFrom, fault}
 use Rattle.spec_strings.proofs.TableSteps.{fault-go, fault-stop, fault-end}
-use Rattle.strings.specs.Answers.{foundOf}
+use Rattle.slices.specs.Answers.{foundOf}
 use borrow.Author.Tests.{not-true, not-false}
 use borrow.Author.Needs.{needs}
 use Rattle.strings.proofs.table.find_fault.Statement.{statement}

@@ -4,7 +4,7 @@ use Prim.Native.Nat.{_-_, _≤_}
 use lib.ListN.{length, drop}
 use Rattle.spec_strings.specs.Table.{lookupFrom, lookup}
 use Rattle.spec_strings.proofs.TableSteps.{lookup-go, lookup-stop, lookup-end}
-use Rattle.strings.specs.Answers.{foundOf}
+use Rattle.slices.specs.Answers.{foundOf}
 use borrow.Author.Needs.{needs}
 use Rattle.strings.proofs.table.lookup.Statement.{statement}
 use Rattle.strings.proofs.table.lookup.Tie as tie

@@ -5,7 +5,7 @@ use Prim.Native.Nat.{_-_, _≤_}
 use lib.ListN.{length, drop}
 use Rattle.lists.specs.Scan.{all}
 use Rattle.spec_strings.specs.Plain.{plainByte}
-use Rattle.strings.proofs.TextTurns.{all-go, all-stop, all-end}
+use Rattle.lists.proofs.Scans.{all-go, all-stop, all-end}
 use borrow.Author.Needs.{needs}
 use Rattle.strings.proofs.util.all_plain.Statement.{statement}
 use Rattle.strings.proofs.util.all_plain.Tie as tie

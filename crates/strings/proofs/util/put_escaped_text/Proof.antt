@@ -2,7 +2,7 @@ use mathlib.Core.Path.{sym, _∙_}
 use native.Mathlib.Omega.{arith}
 use Prim.Native.Nat.{_-_, _≤_, _<_}
 use lib.ListN.{length, drop}
-use Rattle.strings.proofs.LeftToWrite.{Left, left-all, left-turn, left-none}
+use Rattle.lists.proofs.LeftToWrite.{Left, left-all, left-turn, left-none}
 use Rattle.spec_strings.specs.Escape.{escapeAll, escapeText}
 use Rattle.spec_strings.specs.Utf8.{charsFrom}
 use Rattle.strings.proofs.TextTurns.{escape-turn, escape-broken, escape-end}

@@ -1,7 +1,7 @@
 use native.Mathlib.Omega.{arith}
 use Prim.Native.Nat.{_-_, _≤_}
 use lib.ListN.{length, drop}
-use Rattle.strings.proofs.LeftToWrite.{Left, left-all, left-turn, left-none}
+use Rattle.lists.proofs.LeftToWrite.{Left, left-all, left-turn, left-none}
 use Rattle.spec_strings.specs.Escape.{unescape}
 use Rattle.strings.proofs.TextTurns.{read-turn, read-end}
 use mathlib.Core.Bool.{false}

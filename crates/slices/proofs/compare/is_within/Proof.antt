@@ -1,6 +1,6 @@
 use borrow.Author.Tests.{le-leb, lt-leb}
-use Rattle.sheet.proofs.scan.is_within.Statement.{statement}
-use Rattle.sheet.proofs.scan.is_within.Tie as tie
+use Rattle.slices.proofs.compare.is_within.Statement.{statement}
+use Rattle.slices.proofs.compare.is_within.Tie as tie
 
 returns : tie.Need-returns
 returns c = rw (le-leb _ _ (c .if1 .taken))

@@ -6,6 +6,7 @@ ghost use lib.ListN.{length, drop};
 ghost use Rattle.spec_numbers.specs.Parse.{digitValue, digitsValue, unsignedValue, parseU32In, parseU32, parseHex, parseI32, minus, negated};
 ghost use Rattle.spec_numbers.specs.TwosComplement.{unsigned};
 ghost use Rattle.numbers.specs.Answers.{numberOf};
+ghost use Rattle.numbers.specs.Room.{hasRoom};
 use slices::compare::is_within;
 
 // A number that was read, or that the text is none.
@@ -30,12 +31,27 @@ pub fn digit_value(b: u8) -> u8
     16
 }
 
-// The number of the digits from `from` on. The next number is compared with `most` by
-// division, before it is made, so that `most` may be the largest u64.
+// Whether one more digit may stand behind n, where the largest number is `last` behind `front`.
+fn has_room(front: u64, last: u64, n: u64, d: u64) -> bool
+    ensures { λ r. ⌜ r ≡ hasRoom front last n d ⌝ }
+{
+    if n < front {
+        return true;
+    }
+    if n == front {
+        return d <= last;
+    }
+    false
+}
+
+// The number of the digits from `from` on. The next number is compared with `most` before it is made, so that `most` may
+// be the largest u64; `most` is divided once for all digits.
 fn parse_digits(s: &[u8], from: usize, base: u64, most: u64) -> Number
     requires { ⌜ (from ≤ length (now s)) × (0 < base) ⌝ }
     ensures { λ r. ⌜ r ≡ numberOf (digitsValue base most 0 (drop from (now (s .entry)))) ⌝ }
 {
+    let front = most / base;
+    let last = most % base;
     let mut acc: u64 = 0;
     let mut i = from;
     while i < s.len() {
@@ -43,10 +59,7 @@ fn parse_digits(s: &[u8], from: usize, base: u64, most: u64) -> Number
         if base <= d {
             return Number::Bad;
         }
-        if most < d {
-            return Number::Bad;
-        }
-        if (most - d) / base < acc {
+        if !has_room(front, last, acc, d) {
             return Number::Bad;
         }
         acc = acc * base + d;

@@ -1,9 +1,8 @@
 -- Laws of reading a number, clause by clause and at an index. Assumes nothing.
 use mathlib.Core.Path.{_≡_, refl, sym, _∙_}
 use mathlib.Core.Bool.{Bool, true, false}
-use Prim.Native.Nat.{ℕ, zero, suc, _+_, _-_, _*_, _/_, _^_, _≤_, _<_}
+use Prim.Native.Nat.{ℕ, zero, suc, _+_, _-_, _*_, _^_, _≤_, _<_}
 use native.Mathlib.Numerals.{add-one}
-use native.Mathlib.Nat.{le-div-iff-mul-le, div-lt-iff-lt-mul}
 use native.Mathlib.Omega.{arith}
 use mathlib.Core.List.{List, [], _∷_, _++_}
 use lib.ListN.{length, drop, getD, drop-of-length-le}
@@ -93,14 +92,6 @@ module _ {base most n d : ℕ} {s : List ℕ} {«from» i : ℕ} (t : Turn base 
       t .whole ∙ value-at base most n s i (t .inside)
       ∙ value-step base most n (getD s i 0) (drop (i + 1) s) (rw (t .worth) at l) (rw (t .worth) at o)
       ∙ rw (t .worth)
-
-  -- the next number is within `most`, by division
-  pub turn-fits : 0 < base → d ≤ most → n ≤ (most - d) / base → n * base + d ≤ most
-  turn-fits p h l = let q : n * base ≤ most - d = le-div-iff-mul-le p .0 l in omega arith
-
-  -- and where it is past `most`
-  pub turn-past : 0 < base → d ≤ most → (most - d) / base < n → most < n * base + d
-  turn-past p h l = let q : most - d < n * base = div-lt-iff-lt-mul p .0 l in omega arith
 
 module _ (base most : ℕ) where
   -- a text of one digit that reads as a number takes the step

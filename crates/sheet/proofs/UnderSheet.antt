@@ -1,15 +1,12 @@
 -- What an operation knows of a sheet that it read. Assumes nothing.
 use mathlib.Core.Path.{_≡_, refl, ap, sym, _∙_}
-use mathlib.Core.Bool.{Bool, true, false}
 use mathlib.Core.List.{List}
-use Prim.Native.Nat.{ℕ, _+_, _≤_}
+use Prim.Native.Nat.{ℕ, _≤_}
 use native.Mathlib.Omega.{arith}
-use lib.Dec.{eqb}
-use lib.ListN.{length}
-use Rattle.lists.specs.Choice.{pick}
-use Rattle.spec_sheet.specs.Sheet.{Sheet, SheetRead, above, sheetAt, sheetOf, endsAt}
+use Rattle.spec_sheet.specs.Sheet.{Sheet, SheetRead, above, sheetOf}
 use Rattle.spec_sheet.specs.Sheet.SheetRead.{sheet, malformed}
 use Rattle.spec_sheet.proofs.RowLaws.{sheet-above-least, sheet-above-most}
+use Rattle.spec_sheet.proofs.SheetLaws.{whole-sheet}
 use Rattle.sheet.specs.Sheets.{sheetAnswer}
 use Rattle.sheet.specs.declared.opcode.Sheet.the-variants.{Read, Malformed}
 
@@ -29,20 +26,6 @@ pub malformed-as : (x : SheetRead) (k : ℕ) → sheetAnswer x ≡ Malformed k �
 unfolding sheetAnswer
 malformed-as (sheet sh b) k e = absurd (let z : _≡_ {A = ℕ} 0 1 = cc e in omega arith)
 malformed-as (malformed j) k e = let p : j ≡ k = cc e in ap malformed p
-
--- a text that is a sheet has one at its front
-ends-whole : (end : ℕ) (x : SheetRead) (sh : Sheet) (c : ℕ) → endsAt end x ≡ sheet sh c → x ≡ sheet sh c
-unfolding endsAt
-ends-whole end (sheet t b) sh c e = go (eqb b end) e
-  where
-    go : (f : Bool) → pick f (sheet t b) (malformed (3 + length (t .opcodes))) ≡ sheet sh c → sheet t b ≡ sheet sh c
-    go true q = q
-    go false q = absurd (let z : _≡_ {A = ℕ} 0 1 = cc q in omega arith)
-ends-whole end (malformed k) sh c e = e
-
-pub whole-sheet : (s : List ℕ) (sh : Sheet) (c : ℕ) → sheetOf s ≡ sheet sh c → sheetAt s 0 ≡ sheet sh c
-unfolding sheetOf
-whole-sheet s sh c e = ends-whole (length s) (sheetAt s 0) sh c e
 
 -- it has an opcode at least, and none above 255
 pub some-opcode : (s : List ℕ) (m : ℕ) (r : ReadAs (sheetOf s) m) → 1 ≤ m

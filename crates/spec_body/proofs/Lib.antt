@@ -8,3 +8,4 @@ pub mod ReencodeLaws
 pub mod RedecodeLaws
 pub mod LimitLaws
 pub mod OutcomeLaws
+pub mod SheetTables

@@ -18,7 +18,7 @@ use Rattle.spec_body.specs.Encode.{Encoded, encodeRecords}
 use Rattle.spec_body.specs.Encode.Encoded.{encoded, refused}
 use Rattle.spec_body.specs.Function.{inArea, bodyOf, sizeOf, offsetOf}
 use Rattle.spec_body.specs.Recode.{recoded}
-use Rattle.spec_body.specs.Operation.{bodyLimit, Outcome, decodeOutcome, underSheet, decode, decodeFunction, encodeOutcome, encode}
+use Rattle.spec_body.specs.Operation.{bodyLimit, Outcome, decodeOutcome, underSheet, decode, functionOutcome, decodeFunction, encodeOutcome, encode}
 use Rattle.spec_body.specs.Operation.Outcome.{result, refusedWith}
 use Rattle.spec_body.proofs.DecodeLaws.{body-whole, length-join}
 use Rattle.spec_body.proofs.StartLaws.{record-count}
@@ -99,7 +99,7 @@ body-short functions area base id h = omega (arith, length-take (sizeOf function
 
 pub function-body : (text functions area : List ℕ) (base id : ℕ) (words : List ℕ) (n : ℕ) → decodeFunction text functions area base id ≡ result words n
     → decode text (bodyOf functions area base id) ≡ result words n
-unfolding decodeFunction underSheet
+unfolding decodeFunction functionOutcome underSheet
 function-body text functions area base id words n e =
     under-sheet (sheetOf text) _ words n e λ sh at r d.
     let q = in-area (inArea functions area base id) id _ d in

@@ -14,7 +14,7 @@ use Rattle.spec_sheet.specs.Line.LineRead.{line, noLine}
 use lib.Dec.{eqb}
 use Rattle.lists.specs.Choice.{pick}
 use Rattle.spec_sheet.proofs.ScanLaws.{Reached, reached, keyed-bound}
-use Rattle.spec_sheet.specs.Sheet.{accepted, onLine, OpsRead, opsFrom, infoRows, Sheet, SheetRead, sheetOps, sheetAt}
+use Rattle.spec_sheet.specs.Sheet.{accepted, onLine, OpsRead, opsFrom, infoRows, Sheet, SheetRead, sheetOps, sheetAt, endsAt, sheetOf}
 use Rattle.spec_sheet.specs.Sheet.OpsRead.{allRead, faultAfter}
 use Rattle.spec_sheet.specs.Sheet.SheetRead.{sheet, malformed}
 
@@ -116,3 +116,17 @@ module _ (s : List ℕ) (at : ℕ) where
   sheet-lines sh c e =
       let p = sheet-parts sh c e in
       omega (arith, ops-count (p .count) s (p .behind) 0 [] (sh .opcodes) c (p .ops-are), keyed-bound (text "count=") 256 lineEnd s (p .place) (p .count) (p .behind) (p .count-is))
+
+-- a text that is a sheet has one at its front
+ends-whole : (end : ℕ) (x : SheetRead) (sh : Sheet) (c : ℕ) → endsAt end x ≡ sheet sh c → x ≡ sheet sh c
+unfolding endsAt
+ends-whole end (sheet t b) sh c e = go (eqb b end) e
+  where
+    go : (f : Bool) → pick f (sheet t b) (malformed (3 + length (t .opcodes))) ≡ sheet sh c → sheet t b ≡ sheet sh c
+    go true q = q
+    go false q = absurd (let z : _≡_ {A = ℕ} 0 1 = cc q in omega arith)
+ends-whole end (malformed k) sh c e = e
+
+pub whole-sheet : (s : List ℕ) (sh : Sheet) (c : ℕ) → sheetOf s ≡ sheet sh c → sheetAt s 0 ≡ sheet sh c
+unfolding sheetOf
+whole-sheet s sh c e = ends-whole (length s) (sheetAt s 0) sh c e

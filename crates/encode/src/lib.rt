@@ -1,0 +1,2 @@
+// Encoding: records of 20 words back into the bytes of a body.
+pub mod operand;

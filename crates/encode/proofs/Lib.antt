@@ -1,1 +1,5 @@
 pub mod OperandLaws
+pub mod ShapeLaws
+pub mod OperandsLoop
+pub mod RecordLaws
+pub mod RecordsLoop

@@ -1,2 +1,3 @@
 // Encoding: records of 20 words back into the bytes of a body.
+pub mod encode;
 pub mod operand;

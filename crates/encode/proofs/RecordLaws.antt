@@ -1,0 +1,75 @@
+-- One record, case by case. Assumes nothing.
+use mathlib.Core.Path.{_≡_, refl, ap, sym, _∙_}
+use mathlib.Core.Bool.{Bool, true, false}
+use mathlib.Core.List.{List, [], _∷_, _++_}
+use Prim.Native.Nat.{ℕ, zero, suc, _+_, _*_, _≤_, _<_}
+use native.Mathlib.Omega.{arith}
+use lib.ListN.{getD}
+use borrow.Author.Tests.{eq-eqb, ne-eqb, lt-ltb, le-ltb}
+use Rattle.lists.specs.Write.{Put}
+use Rattle.lists.proofs.Writes.{_then_}
+use Rattle.lists.proofs.Parts.{part-at}
+use Rattle.spec_body.specs.Record.{countOf}
+use Rattle.spec_body.specs.Encode.{Operands, Encoded, goodShape, encodeOperands, withOperands, appendTo, encodeRecord}
+use Rattle.spec_body.specs.Encode.Operands.{bytes, misfit}
+use Rattle.spec_body.specs.Encode.Encoded.{encoded, refused}
+use Rattle.encode.specs.Encoding.{recordAt, pairsAt, Operanded, Turn, encodeReport}
+use Rattle.encode.specs.Encoding.Operanded.{whole, misfits}
+use Rattle.encode.specs.Encoding.Turn.{went, stopped}
+use Rattle.encode.specs.declared.encode.EncodeAnswer.{EncodeAnswer}
+use Rattle.encode.specs.declared.encode.EncodeAnswer.the-variants.{Done, Shape, Beyond, Count, Misfit}
+use Rattle.encode.specs.declared.encode.Wrote.{Wrote}
+use Rattle.encode.specs.declared.encode.Wrote.the-variants as wrote
+
+module _ (types : List (List ℕ)) (last i at : ℕ) (words out out′ : List ℕ) («from» : ℕ) where
+  abbrev this : EncodeAnswer → Type 0
+  this r = Turn (encodeRecord types last i (recordAt words at)) out «from» out′ r
+
+  pub shape-bad : goodShape (recordAt words at) ≡ false → this (Shape i)
+  unfolding encodeRecord encodeReport
+  shape-bad e = stopped 15 i 0 (omega arith) (λ rest. rw e) refl
+
+  module _ (e : goodShape (recordAt words at) ≡ true) where
+    opcode-at : getD (recordAt words at) 1 0 ≡ getD words (at + 1) 0
+    opcode-at = part-at words at 20 1 0 (omega arith)
+
+    pub opcode-beyond : last < getD words (at + 1) 0 → this (Beyond i)
+    unfolding encodeRecord encodeReport
+    opcode-beyond h = stopped 13 i 0 (omega arith) (λ rest. rw (e, opcode-at, lt-ltb last (getD words (at + 1) 0) h)) refl
+
+    module _ (h : getD words (at + 1) 0 ≤ last) where
+      count-at : getD (recordAt words at) 3 0 ≡ getD words (at + 3) 0
+      count-at = part-at words at 20 3 0 (omega arith)
+
+      abbrev row : List ℕ
+      row = getD types (getD words (at + 1) 0) []
+
+      pub count-other : (getD words (at + 3) 0 ≡ countOf row → ⊥) → this (Count i)
+      unfolding encodeRecord encodeReport
+      count-other f = stopped 5 i 0 (omega arith) (λ rest. rw (e, opcode-at, le-ltb last (getD words (at + 1) 0) h, count-at, ne-eqb (getD words (at + 3) 0) (countOf row) f)) refl
+
+      module _ (f : getD words (at + 3) 0 ≡ countOf row) where
+        counted : (rest : Encoded) → encodeRecord types last i (recordAt words at) rest ≡ withOperands (getD words (at + 1) 0) i (encodeOperands row (pairsAt words at) 1) rest
+        unfolding encodeRecord
+        counted rest = rw (e, opcode-at, le-ltb last (getD words (at + 1) 0) h, count-at, eq-eqb (getD words (at + 3) 0) (countOf row) f)
+
+        module _ (o : List ℕ) (k : ℕ) (p : Put out «from» (getD words (at + 1) 0 ∷ []) o k) (w : Wrote) (d : Operanded (encodeOperands row (pairsAt words at) 1) o k out′ w) where
+          pub operands-to : (n : ℕ) → w ≡ wrote.To n → this (Done n)
+          unfolding withOperands
+          operands-to n q = go d
+            where
+              go : Operanded (encodeOperands row (pairsAt words at) 1) o k out′ w → this (Done n)
+              go (whole bs m x y t) =
+                  let z : m ≡ n = cc (sym y ∙ q) in
+                  went (getD words (at + 1) 0 ∷ bs) n (λ rest. counted rest ∙ rw x) refl (p then (rw z at t))
+              go (misfits m x y) = absurd (let z : _≡_ {A = ℕ} 0 1 = cc (sym y ∙ q) in omega arith)
+
+          pub operands-misfit : (n : ℕ) → w ≡ wrote.Misfit n → this (Misfit i n)
+          unfolding withOperands encodeReport
+          operands-misfit n q = go d
+            where
+              go : Operanded (encodeOperands row (pairsAt words at) 1) o k out′ w → this (Misfit i n)
+              go (whole bs m x y t) = absurd (let z : _≡_ {A = ℕ} 0 1 = cc (sym y ∙ q) in omega arith)
+              go (misfits m x y) =
+                  let z : m ≡ n = cc (sym y ∙ q) in
+                  stopped 15 i n (omega arith) (λ rest. counted rest ∙ rw (x, z)) refl

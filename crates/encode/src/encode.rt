@@ -1,0 +1,260 @@
+// Records of 20 words encoded under a sheet, `encode_instruction` of encode.rs. One pass writes what fits and counts all of
+// it, so that the lent space is compared with the length needed only after nothing else has refused.
+ghost use mathlib.Core.Path.{_≡_};
+ghost use mathlib.Core.Bool.{Bool};
+ghost use Prim.Native.Nat.{ℕ, _+_, _-_, _*_, _≤_};
+ghost use lib.Dec.{eqb};
+ghost use lib.ListN.{length};
+ghost use Rattle.lists.specs.Choice.{pick, both};
+ghost use Rattle.spec_body.specs.Record.{oneFor, countOf};
+ghost use Rattle.spec_body.specs.Encode.{goodPair, goodPairs, goodShape, encodeOperands, encodeRecord, encodeRecords};
+ghost use Rattle.spec_body.specs.Operation as operation;
+ghost use Rattle.spec_body.specs.Operation.{encodeOutcome, report, exitOf};
+ghost use Rattle.encode.specs.Encoding.{recordAt, pairsAt, Operanded, Turn, Encoding, encodeReport};
+use numbers::parse::Number;
+use sheet::opcode::Sheet;
+use crate::operand::fits_in;
+
+// The bytes written; or why a text or its records are refused: the sheet's malformed line, the record whose shape is bad,
+// whose opcode is beyond the sheet's or whose operand count is another, the record and its operand that doesn't fit; or
+// that the body is too large, or the lent space too short.
+pub enum EncodeAnswer {
+    Done(usize),
+    Malformed(usize),
+    Shape(usize),
+    Beyond(usize),
+    Count(usize),
+    Misfit(usize, usize),
+    TooLarge,
+    Short,
+}
+
+const KIND_WIDTHS: [usize; 6] = [1, 2, 4, 1, 4, 8];
+
+// Whether a pair is one of the six kinds with bits of its width.
+fn good_pair(kind: u64, bits: u64) -> bool
+    ensures { λ r. ⌜ r ≡ goodPair kind bits ⌝ }
+{
+    if 5 < kind {
+        return false;
+    }
+    fits_in(KIND_WIDTHS[kind as usize], bits)
+}
+
+// Whether a pair that is used is good, and an unused one zero.
+fn good_slot(unused: bool, kind: u64, bits: u64) -> bool
+    ensures { λ r. ⌜ r ≡ pick unused (both (eqb kind 0) (eqb bits 0)) (goodPair kind bits) ⌝ }
+{
+    if unused {
+        if kind == 0 {
+            return bits == 0;
+        }
+        return false;
+    }
+    good_pair(kind, bits)
+}
+
+fn one_less(n: u64) -> u64
+    ensures { λ r. ⌜ r ≡ n - 1 ⌝ }
+{
+    if n == 0 {
+        return 0;
+    }
+    n - 1
+}
+
+// Whether the eight pairs of the record at `at` are good, where `count` are used.
+fn good_pairs(words: &[u64], at: usize, count: u64) -> bool
+    requires { ⌜ at + 20 ≤ length (now words) ⌝ }
+    ensures { λ r. ⌜ r ≡ goodPairs 8 count (pairsAt (now (words .entry)) at) ⌝ }
+{
+    let mut left = count;
+    let mut i: usize = 0;
+    while i < 8 {
+        let p = at + 4 + 2 * i;
+        if good_slot(left == 0, words[p], words[p + 1]) {
+            left = one_less(left);
+            i += 1;
+        } else {
+            return false;
+        }
+    }
+    true
+}
+
+// Whether the record at `at` is well-formed.
+pub fn good_shape(words: &[u64], at: usize) -> bool
+    requires { ⌜ at + 20 ≤ length (now words) ⌝ }
+    ensures { λ r. ⌜ r ≡ goodShape (recordAt (now (words .entry)) at) ⌝ }
+{
+    let count = words[at + 3];
+    if 8 < count {
+        return false;
+    }
+    good_pairs(words, at, count)
+}
+
+fn one_for(code: u8) -> u64
+    ensures { λ r. ⌜ r ≡ oneFor code ⌝ }
+{
+    if code == 0 { 0 } else { 1 }
+}
+
+// How many operands a row of type codes has.
+fn operand_count(row: [u8; 8]) -> u64
+    ensures { λ r. ⌜ r ≡ countOf row ⌝ }
+{
+    let mut n: u64 = 0;
+    let mut i: usize = 0;
+    while i < 8 {
+        n += one_for(row[i]);
+        i += 1;
+    }
+    n
+}
+
+// Operands that were written: the next position; or the one that doesn't fit, from 1.
+enum Wrote {
+    To(usize),
+    Misfit(usize),
+}
+
+// Writes the operands of the record at `at` from position `from` on.
+fn encode_operands(row: [u8; 8], words: &[u64], at: usize, out: &mut [u8], from: usize) -> Wrote
+    requires { ⌜ at + 20 ≤ length (now words) ⌝ }
+    ensures { λ r. ⌜ Operanded (encodeOperands row (pairsAt (now (words .entry)) at) 1) (now (out .entry)) «from» (now (out .exit)) r ⌝ }
+{
+    let mut k = from;
+    let mut i: usize = 0;
+    while i < 8 {
+        let c = row[i];
+        if c == 0 {
+            return Wrote::To(k);
+        }
+        let p = at + 4 + 2 * i;
+        let v = crate::operand::encode_number(c, words[p], words[p + 1]);
+        let Number::Is(n) = v else {
+            return Wrote::Misfit(i + 1);
+        };
+        k = numbers::io::put_le(out, k, sheet::types::width(c), n);
+        i += 1;
+    }
+    Wrote::To(k)
+}
+
+// Writes record i from position `from` on.
+fn encode_record(
+    types: &[[u8; 8]; 256],
+    last: usize,
+    words: &[u64],
+    i: usize,
+    out: &mut [u8],
+    from: usize,
+) -> EncodeAnswer
+    requires { ⌜ (20 * i + 20 ≤ length (now words)) × (last ≤ 255) ⌝ }
+    ensures { λ r. ⌜ Turn (encodeRecord (now (types .entry)) last i (recordAt (now (words .entry)) (20 * i))) (now (out .entry)) «from» (now (out .exit)) r ⌝ }
+{
+    let at = 20 * i;
+    if !good_shape(words, at) {
+        return EncodeAnswer::Shape(i);
+    }
+    let opcode = words[at + 1];
+    if (last as u64) < opcode {
+        return EncodeAnswer::Beyond(i);
+    }
+    let row = types[opcode as usize];
+    if words[at + 3] != operand_count(row) {
+        return EncodeAnswer::Count(i);
+    }
+    let k = slices::write::put_byte(out, from, opcode as u8);
+    let w = encode_operands(row, words, at, out, k);
+    match w {
+        Wrote::To(n) => EncodeAnswer::Done(n),
+        Wrote::Misfit(q) => EncodeAnswer::Misfit(i, q),
+    }
+}
+
+// Writes all records: how many bytes they have, or the first refusal.
+fn encode_records(
+    types: &[[u8; 8]; 256],
+    last: usize,
+    words: &[u64],
+    out: &mut [u8],
+) -> EncodeAnswer
+    requires { ⌜ last ≤ 255 ⌝ }
+    ensures { λ r. ⌜ Encoding (encodeRecords (now (types .entry)) last (now (words .entry))) (now (out .entry)) (now (out .exit)) r ⌝ }
+{
+    let n = words.len() / 20;
+    let mut k: usize = 0;
+    let mut i: usize = 0;
+    while i < n {
+        let r = encode_record(types, last, words, i, out, k);
+        let EncodeAnswer::Done(next) = r else {
+            return r;
+        };
+        k = next;
+        i += 1;
+    }
+    if words.len() % 20 != 0 {
+        return EncodeAnswer::Shape(n);
+    }
+    EncodeAnswer::Done(k)
+}
+
+// The records under the tables of a sheet, with their length and the lent space looked at last.
+pub fn encode_under(
+    types: &[[u8; 8]; 256],
+    last: usize,
+    words: &[u64],
+    out: &mut [u8],
+) -> EncodeAnswer
+    requires { ⌜ last ≤ 255 ⌝ }
+    ensures { λ r. ⌜ encodeReport r ≡ report (encodeOutcome (encodeRecords (now (types .entry)) last (now (words .entry)))) (length (now (out .entry))) ⌝ }
+    ensures { λ _. ⌜ now (out .exit) ≡ exitOf (encodeOutcome (encodeRecords (now (types .entry)) last (now (words .entry)))) (now (out .entry)) ⌝ }
+{
+    let r = encode_records(types, last, words, out);
+    let EncodeAnswer::Done(n) = r else {
+        slices::write::clear(out);
+        return r;
+    };
+    if 65536 < n {
+        slices::write::clear(out);
+        return EncodeAnswer::TooLarge;
+    }
+    if out.len() < n {
+        slices::write::clear(out);
+        return EncodeAnswer::Short;
+    }
+    r
+}
+
+// The largest opcode, from one more than it. A sheet that was read has at least one opcode, so that 0 does not occur; the
+// definition too takes 0 there.
+fn largest_of(above: usize) -> usize
+    ensures { λ r. ⌜ r ≡ above - 1 ⌝ }
+{
+    if above == 0 {
+        return 0;
+    }
+    above - 1
+}
+
+// Encodes records of 20 words under the sheet that a text holds.
+pub fn encode(text: &[u8], words: &[u64], out: &mut [u8]) -> EncodeAnswer
+    ensures { λ r. ⌜ encodeReport r ≡ report (operation.encode (now (text .entry)) (now (words .entry))) (length (now (out .entry))) ⌝ }
+    ensures { λ _. ⌜ now (out .exit) ≡ exitOf (operation.encode (now (text .entry)) (now (words .entry))) (now (out .entry)) ⌝ }
+{
+    let mut types = [[0u8; 8]; 256];
+    let mut ops = [[0usize; 4]; 256];
+    let s = sheet::opcode::read_sheet(text, &mut types, &mut ops);
+    match s {
+        Sheet::Read(_, _, above, _) => {
+            let last = largest_of(above);
+            encode_under(&types, last, words, out)
+        }
+        Sheet::Malformed(line) => {
+            slices::write::clear(out);
+            EncodeAnswer::Malformed(line)
+        }
+    }
+}

@@ -3,3 +3,5 @@ pub mod ShapeLaws
 pub mod OperandsLoop
 pub mod RecordLaws
 pub mod RecordsLoop
+pub mod SheetBounds
+pub mod EncodeAnswers

@@ -1,15 +1,14 @@
 -- Laws of operands from values. Assumes nothing.
-use mathlib.Core.Path.{_≡_, refl, ap, sym, _∙_}
+use mathlib.Core.Path.{_≡_, refl, sym, _∙_}
 use mathlib.Core.Bool.{Bool, true, false}
-use Prim.Native.Nat.{ℕ, zero, suc, _+_, _-_, _*_, _/_, _%_, _^_, _≤_, _<_}
+use Prim.Native.Nat.{ℕ, zero, suc, _-_, _*_, _/_, _%_, _^_, _≤_, _<_}
 use native.Mathlib.Nat.{pow-suc}
 use native.Mathlib.Omega.{arith}
 use lib.Dec.{eqb, ltb, leb}
 use lib.ListN.{getD}
 use borrow.Author.Tests.{lt-ltb, le-ltb, ne-eqb, ltb-true, leb-true}
-use Rattle.lists.specs.Choice.{pick, both}
 use Rattle.lists.proofs.Tests.{by-leb, both-left, both-right}
-use Rattle.spec_numbers.specs.TwosComplement.{signed, unsigned, extend8}
+use Rattle.spec_numbers.specs.TwosComplement.{extend8}
 use Rattle.spec_numbers.proofs.SignedLaws.{unsigned-signed}
 use Rattle.spec_body.specs.Encode.{kindWidths, goodPair, encodeOperand}
 use Rattle.operands.specs.Value.{valueOf}

@@ -2,16 +2,15 @@
 use mathlib.Core.Path.{_≡_, refl, ap, sym, _∙_}
 use mathlib.Core.Bool.{Bool, true, false}
 use mathlib.Core.List.{List, [], _∷_, _++_, append-assoc, append-nil}
-use Prim.Native.Nat.{ℕ, zero, suc, _+_, _-_, _*_, _≤_, _<_}
+use Prim.Native.Nat.{ℕ, zero, suc, _+_, _*_, _≤_, _<_}
 use native.Mathlib.Numerals.{add-one}
 use native.Mathlib.Omega.{arith}
 use lib.ListN.{length, drop, getD, drop-of-length-le}
 use lib.Seq.{drop-cons}
-use borrow.Author.Tests.{eq-eqb, ne-eqb}
+use borrow.Author.Tests.{ne-eqb}
 use Rattle.lists.specs.Write.{Put, top}
-use Rattle.lists.proofs.Writes.{_then_, same-piece, wrote-none}
+use Rattle.lists.proofs.Writes.{_then_, wrote-none}
 use Rattle.spec_numbers.specs.LittleEndian.{leBytes}
-use Rattle.spec_numbers.specs.Parse.{Parsed}
 use Rattle.spec_numbers.specs.Parse.Parsed.{is, bad}
 use Rattle.spec_sheet.specs.Types.{widthOf}
 use Rattle.spec_body.specs.Encode.{Operands, encodeOperand, encodeOperands, operandBytes, prependBytes}

@@ -1,8 +1,8 @@
 -- One record, case by case. Assumes nothing.
-use mathlib.Core.Path.{_≡_, refl, ap, sym, _∙_}
+use mathlib.Core.Path.{_≡_, refl, sym, _∙_}
 use mathlib.Core.Bool.{Bool, true, false}
-use mathlib.Core.List.{List, [], _∷_, _++_}
-use Prim.Native.Nat.{ℕ, zero, suc, _+_, _*_, _≤_, _<_}
+use mathlib.Core.List.{List, [], _∷_}
+use Prim.Native.Nat.{ℕ, zero, suc, _+_, _≤_, _<_}
 use native.Mathlib.Omega.{arith}
 use lib.ListN.{getD}
 use borrow.Author.Tests.{eq-eqb, ne-eqb, lt-ltb, le-ltb}
@@ -10,9 +10,7 @@ use Rattle.lists.specs.Write.{Put}
 use Rattle.lists.proofs.Writes.{_then_}
 use Rattle.lists.proofs.Parts.{part-at}
 use Rattle.spec_body.specs.Record.{countOf}
-use Rattle.spec_body.specs.Encode.{Operands, Encoded, goodShape, encodeOperands, withOperands, appendTo, encodeRecord}
-use Rattle.spec_body.specs.Encode.Operands.{bytes, misfit}
-use Rattle.spec_body.specs.Encode.Encoded.{encoded, refused}
+use Rattle.spec_body.specs.Encode.{Encoded, goodShape, encodeOperands, withOperands, encodeRecord}
 use Rattle.encode.specs.Encoding.{recordAt, pairsAt, Operanded, Turn, encodeReport}
 use Rattle.encode.specs.Encoding.Operanded.{whole, misfits}
 use Rattle.encode.specs.Encoding.Turn.{went, stopped}

@@ -4,6 +4,8 @@ use mathlib.Core.Bool.{Bool, true, false}
 use mathlib.Core.List.{List, [], _∷_, _++_, append-assoc, append-nil}
 use Prim.Native.Nat.{ℕ, zero, suc, _+_, _-_, _*_, _/_, _%_, _≤_, _<_}
 use native.Mathlib.Omega.{arith}
+use types.Run.{OneOf}
+use mathlib.Core.Logic.{_⊎_, ⊎-elim}
 use lib.ListN.{length, drop, length-drop}
 use borrow.Author.Tests.{eq-eqb, ne-eqb, lt-ltb, le-ltb}
 use Rattle.lists.specs.Write.{Put, top}
@@ -27,6 +29,13 @@ append-twice : (a b : List ℕ) (x : Encoded) → appendTo a (appendTo b x) ≡ 
 unfolding appendTo
 append-twice a b (encoded bs) = ap encoded (sym (append-assoc a b bs))
 append-twice a b (refused n p q) = refl
+
+-- the number of `Done` is none of the others
+no-tag : {P : Type 0} (n : ℕ) → (P → ⊥) → (0 ≡ suc n) ⊎ P → ⊥
+no-tag n f t = ⊎-elim (λ e. omega arith) f t
+
+pub other-tag : OneOf (1 ∷ 2 ∷ 3 ∷ 4 ∷ 5 ∷ 6 ∷ 7 ∷ []) 0 → ⊥
+other-tag t = no-tag 0 (no-tag 1 (no-tag 2 (no-tag 3 (no-tag 4 (no-tag 5 (λ e. omega arith)))))) t
 
 -- a refusal is not a success
 pub not-done : (r : EncodeAnswer) (k n p q : ℕ) {P : Type 0} → 0 < n → encodeReport r ≡ refusal n p q → r ≡ Done k → P

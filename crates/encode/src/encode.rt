@@ -11,9 +11,9 @@ ghost use Rattle.spec_body.specs.Encode.{goodPair, goodPairs, goodShape, encode
 ghost use Rattle.spec_body.specs.Operation as operation;
 ghost use Rattle.spec_body.specs.Operation.{encodeOutcome, report, exitOf};
 ghost use Rattle.encode.specs.Encoding.{recordAt, pairsAt, Operanded, Turn, Encoding, encodeReport};
+use crate::operand::fits_in;
 use numbers::parse::Number;
 use sheet::opcode::Sheet;
-use crate::operand::fits_in;
 
 // The bytes written; or why a text or its records are refused: the sheet's malformed line, the record whose shape is bad,
 // whose opcode is beyond the sheet's or whose operand count is another, the record and its operand that doesn't fit; or
@@ -225,7 +225,7 @@ pub fn encode_under(
         slices::write::clear(out);
         return EncodeAnswer::Short;
     }
-    r
+    EncodeAnswer::Done(n)
 }
 
 // The largest opcode, from one more than it. A sheet that was read has at least one opcode, so that 0 does not occur; the

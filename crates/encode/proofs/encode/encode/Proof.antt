@@ -1,52 +1,48 @@
+use Rattle.encode.proofs.EncodeAnswers.{encode-read, encode-none}
+use Rattle.encode.proofs.SheetBounds.{read-above}
+use native.Mathlib.Omega.{arith}
+use mathlib.Core.Path.{sym, _∙_}
 use borrow.Author.Needs.{needs}
 use Rattle.encode.proofs.encode.encode.Statement.{statement}
 use Rattle.encode.proofs.encode.encode.Tie as tie
-use Rattle.encode.proofs.encode.encode.Reads as reads
-use Rattle.encode.proofs.encode.encode.Lts as lts
-use Rattle.encode.proofs.encode.encode_under.Reads as encode-under-reads
-use Rattle.encode.proofs.encode.largest_of.Reads as largest-of-reads
-use Rattle.sheet.proofs.opcode.read_sheet.Reads as read-sheet-reads
-use Rattle.slices.proofs.write.clear.Reads as clear-reads
 
--- src/encode.rt:249:9
 read-sheet-requires : tie.Need-read-sheet-requires
 read-sheet-requires c κs = search needs
 
--- src/encode.rt:251:27
 enum-known-s : tie.Need-enum-known-s
 enum-known-s c = search needs
 
--- src/encode.rt:252:17
 largest-of-requires : tie.Need-largest-of-requires
 largest-of-requires c κs = search needs
 
--- src/encode.rt:253:13
 encode-under-requires : tie.Need-encode-under-requires
-encode-under-requires c κs = search needs
+encode-under-requires c κs =
+    let t = c .before .before .before .before .before .before .before .before .before .before .before .before .args .text .now in
+    omega (arith, c .before .before .largest-of .ensures, read-above t _ _ _ _ (sym (c .before .before .before .before .before .before .read-sheet .ensures .0) ∙ c .before .before .before .before .s .given .1))
 
--- src/encode.rt:255:26
 enum-known-s-2 : tie.Need-enum-known-s-2
 enum-known-s-2 c = search needs
 
--- src/encode.rt:256:13
 clear-requires : tie.Need-clear-requires
 clear-requires c κs = search needs
 
--- src/encode.rt:243:1
 same-length : tie.Need-same-length
 same-length c = search needs
 
--- src/encode.rt:243:1
 returns : tie.Need-returns
-returns c = search needs
+returns c =
+    let a = c .before .before .before .before .before .before .before .before .before .before .before .before .before .before .before .args in
+    let w = c .before .before .before .before .before .before .before .before .before .read-sheet .ensures in
+    rw (encode-read (a .text .now) (a .words .now) _ _ _ _ (sym (w .0) ∙ c .before .before .before .before .before .before .before .s .given .1), ← (w .1 .0), ← (c .before .before .before .before .before .largest-of .ensures)) (c .before .before .encode-under .ensures)
 
--- src/encode.rt:243:1
 same-length-2 : tie.Need-same-length-2
 same-length-2 c = search needs
 
--- src/encode.rt:243:1
 returns-2 : tie.Need-returns-2
-returns-2 c = search needs
+returns-2 c =
+    let a = c .before .before .before .before .before .before .before .before .before .before .before .before .before .args in
+    let e = encode-none (a .text .now) (a .words .now) _ (a .out .now) (sym (c .before .before .before .before .before .before .before .read-sheet .ensures .0) ∙ c .before .before .before .before .before .s2 .given .1) in
+    (e .0, c .before .before .clear .ensures ∙ e .1)
 
 pub encode-spec : {M : Type 1} → statement M
 encode-spec =

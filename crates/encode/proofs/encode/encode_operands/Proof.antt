@@ -2,7 +2,7 @@ use Rattle.encode.proofs.OperandsLoop.{Going, start, ended, stops, refu
 use Rattle.numbers.proofs.AnswerLaws.{number-is, number-bad}
 use Rattle.lists.proofs.Writes.{kept-length}
 use lib.ListN.{length}
-use Prim.Native.Nat.{_-_, _<_, _≤_}
+use Prim.Native.Nat.{_-_}
 use native.Mathlib.Omega.{arith}
 use mathlib.Core.Path.{_≡_, refl, sym, _∙_}
 use borrow.Author.Needs.{needs}

@@ -1,63 +1,61 @@
+use Rattle.encode.proofs.RecordsLoop.{Going, start, turn, stops, cut, ended, other-tag}
+use Rattle.lists.proofs.Writes.{kept-length}
+use Prim.Native.Nat.{_-_}
+use native.Mathlib.Omega.{arith}
+use mathlib.Core.Path.{refl}
 use borrow.Author.Needs.{needs}
 use Rattle.encode.proofs.encode.encode_records.Statement.{statement}
 use Rattle.encode.proofs.encode.encode_records.Tie as tie
-use Rattle.encode.proofs.encode.encode_records.Reads as reads
-use Rattle.encode.proofs.encode.encode_records.Lts as lts
-use Rattle.encode.proofs.encode.encode_record.Reads as encode-record-reads
 
 abbrev Inv-loop : tie.InvT-loop
-Inv-loop types last words out₀ n k₀ i₀ out k i = ?
+Inv-loop types last words out₀ n k₀ i₀ out k i = Going types last words out₀ out k i
 
 abbrev μ-loop : tie.MeasureT-loop
-μ-loop types last words out₀ n k₀ i₀ out k i = ?
+μ-loop types last words out₀ n k₀ i₀ out k i = n - i
 
--- src/encode.rt:190:5
 loop-holds : tie.Need-loop-holds Inv-loop μ-loop
-loop-holds c = search needs
+loop-holds c =
+    let a = c .before .before .args in
+    start (a .types .now) (a .last) (a .words .now) (a .out .now) (omega arith)
 
--- src/encode.rt:191:13
 encode-record-requires : tie.Need-encode-record-requires Inv-loop μ-loop
 encode-record-requires c κs = search needs
 
--- src/encode.rt:192:32
 enum-known-r : tie.Need-enum-known-r Inv-loop μ-loop
 enum-known-r c = search needs
 
--- src/encode.rt:193:13
 same-length : tie.Need-same-length Inv-loop μ-loop
-same-length c = search needs
+same-length c =
+    let e = kept-length (c .before .before .before .before .before .before .loop .inv .wrote) in
+    search needs
 
--- src/encode.rt:193:13
 returns : tie.Need-returns Inv-loop μ-loop
-returns c = search needs
+returns c =
+    let l = c .before .before .before .before .before .before .loop in
+    stops _ _ _ _ _ _ _ (l .inv) (c .before .before .before .before .before .loop-test .taken) _ _ (c .before .before .before .encode-record .ensures) (λ n q. other-tag (rw q at (c .match .keys2)))
 
--- src/encode.rt:196:9
 add-i : tie.Need-add-i Inv-loop μ-loop
 add-i c = search needs
 
--- src/encode.rt:190:5
 loop-less : tie.Need-loop-less Inv-loop μ-loop
 loop-less c = search needs
 
--- src/encode.rt:190:5
 loop-again : tie.Need-loop-again Inv-loop μ-loop
-loop-again c = search needs
+loop-again c =
+    let l = c .before .before .before .before .before .before .before .before .loop in
+    turn _ _ _ _ _ _ _ (l .inv) (c .before .before .before .before .before .before .before .loop-test .taken) _ _ (c .before .before .before .before .before .encode-record .ensures) _ (c .before .r .given .1)
 
--- src/encode.rt:199:9
 same-length-2 : tie.Need-same-length-2 Inv-loop μ-loop
-same-length-2 c = search needs
+same-length-2 c = kept-length (c .before .before .loop .inv .wrote)
 
--- src/encode.rt:199:9
 returns-2 : tie.Need-returns-2 Inv-loop μ-loop
-returns-2 c = search needs
+returns-2 c = cut _ _ _ _ _ _ _ (c .before .before .loop .inv) (c .before .loop-test .left) _ refl (c .if1 .taken)
 
--- src/encode.rt:178:1
 same-length-3 : tie.Need-same-length-3 Inv-loop μ-loop
-same-length-3 c = search needs
+same-length-3 c = kept-length (c .before .before .loop .inv .wrote)
 
--- src/encode.rt:178:1
 returns-3 : tie.Need-returns-3 Inv-loop μ-loop
-returns-3 c = search needs
+returns-3 c = ended _ _ _ _ _ _ _ (c .before .before .loop .inv) (c .before .loop-test .left) (c .if1 .left)
 
 pub encode-records-spec : {M : Type 1} → statement M
 encode-records-spec =

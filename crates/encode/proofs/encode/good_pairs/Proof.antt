@@ -2,7 +2,7 @@ use Rattle.encode.proofs.ShapeLaws.{pair-good, pair-bad}
 use Rattle.encode.specs.Encoding.{pairsAt}
 use Rattle.spec_body.specs.Encode.{goodPairs}
 use lib.ListN.{drop}
-use Prim.Native.Nat.{_+_, _-_, _*_, _≤_}
+use Prim.Native.Nat.{_-_, _*_, _≤_}
 use native.Mathlib.Omega.{arith}
 use mathlib.Core.Path.{_≡_, refl, sym, _∙_}
 use borrow.Author.Needs.{needs}

@@ -1,4 +1,4 @@
-use borrow.Author.Tests.{eq-eqb, ne-eqb}
+use borrow.Author.Tests.{ne-eqb}
 use borrow.Author.Needs.{needs}
 use Rattle.encode.proofs.encode.good_slot.Statement.{statement}
 use Rattle.encode.proofs.encode.good_slot.Tie as tie

@@ -2,9 +2,9 @@ use Rattle.encode.proofs.ShapeLaws.{count-more, count-none, one-most}
 use Rattle.spec_body.specs.Record.{countOf}
 use lib.ListN.{length, drop, getD, drop-of-length-le}
 use Prim.Native.Nat.{_+_, _-_, _≤_}
-use native.Mathlib.Nat.{add-zero, zero-add}
+use native.Mathlib.Nat.{zero-add}
 use native.Mathlib.Omega.{arith}
-use mathlib.Core.Path.{_≡_, sym, _∙_, ap}
+use mathlib.Core.Path.{_≡_}
 use borrow.Author.Needs.{needs}
 use Rattle.encode.proofs.encode.operand_count.Statement.{statement}
 use Rattle.encode.proofs.encode.operand_count.Tie as tie

@@ -1,0 +1,100 @@
+-- What encoding answers and leaves in the lent space, case by case. Assumes nothing.
+use mathlib.Core.Path.{_≡_, refl, ap, sym, _∙_}
+use mathlib.Core.Bool.{Bool, true, false}
+use mathlib.Core.List.{List, _++_}
+use Prim.Native.Nat.{ℕ, zero, suc, _+_, _-_, _≤_, _<_}
+use native.Mathlib.Omega.{arith}
+use lib.ListN.{length, drop}
+use borrow.Author.Tests.{lt-ltb, le-ltb}
+use Rattle.lists.specs.Write.{Put}
+use Rattle.lists.proofs.Writes.{put-fits}
+use Rattle.spec_answers.specs.Report.{zeros}
+use Rattle.spec_sheet.specs.Sheet.{SheetRead, above, sheetOf}
+use Rattle.spec_sheet.specs.Sheet.SheetRead.{sheet, malformed}
+use Rattle.spec_body.specs.Encode.{Encoded, encodeRecords}
+use Rattle.spec_body.specs.Encode.Encoded.{encoded}
+use Rattle.spec_body.specs.Operation as operation
+use Rattle.spec_body.specs.Operation.{Outcome, bodyLimit, encodeOutcome, underSheet, report, exitOf}
+use Rattle.spec_body.specs.Operation.Outcome.{refusedWith}
+use Rattle.sheet.specs.Sheets.{sheetAnswer, typesIn}
+use Rattle.sheet.specs.declared.opcode.Sheet.the-variants.{Read, Malformed}
+use Rattle.encode.specs.Encoding.{Encoding, encodeReport}
+use Rattle.encode.specs.Encoding.Encoding.{all, refuses}
+use Rattle.encode.specs.declared.encode.EncodeAnswer.{EncodeAnswer}
+use Rattle.encode.specs.declared.encode.EncodeAnswer.the-variants.{Done, TooLarge, Short}
+use Rattle.encode.specs.declared.encode.EncodeAnswer.the-variants as variants
+use Rattle.encode.proofs.RecordsLoop.{not-done}
+
+-- the answer and the lent space afterwards are those of an outcome
+abbrev pub Told : Outcome → List ℕ → EncodeAnswer → List ℕ → Type 0
+Told x out r out′ = (encodeReport r ≡ report x (length out)) × (out′ ≡ exitOf x out)
+
+-- records that were written
+record Written (x : Encoded) (out out′ : List ℕ) (n : ℕ) : Type 0 where
+  body : List ℕ
+  is-body : x ≡ encoded body
+  wrote : Put out 0 body out′ n
+
+module _ (x : Encoded) (out out′ : List ℕ) (r : EncodeAnswer) (d : Encoding x out out′ r) where
+  pub refused-ends : ((n : ℕ) → r ≡ Done n → ⊥) → Told (encodeOutcome x) out r (zeros out)
+  unfolding encodeOutcome report exitOf
+  refused-ends f = go d
+    where
+      go : Encoding x out out′ r → Told (encodeOutcome x) out r (zeros out)
+      go (all bs k e q p) = absurd (f k q)
+      go (refuses n p q h e a) = rw e (a, refl)
+
+  module _ (n : ℕ) (e : r ≡ Done n) where
+    written : Written x out out′ n
+    written = go d
+      where
+        go : Encoding x out out′ r → Written x out out′ n
+        go (all bs k f q p) = let z : k ≡ n = cc (sym q ∙ e) in record { body = bs; is-body = f; wrote = rw z at p }
+        go (refuses m p q h f a) = not-done r n m p q h a e
+
+    pub too-large : bodyLimit < n → Told (encodeOutcome x) out TooLarge (zeros out)
+    unfolding encodeOutcome report exitOf encodeReport
+    too-large h =
+        let w = written in
+        rw (w .is-body, lt-ltb bodyLimit (length (w .body)) (omega (arith, w .wrote .next))) (refl, refl)
+
+    module _ (h : n ≤ bodyLimit) where
+      length-is : length (written .body) ≡ n
+      length-is = omega (arith, written .wrote .next)
+
+      few : length (written .body) ≤ bodyLimit
+      few = omega (arith, length-is)
+
+      pub too-short : length out < n → Told (encodeOutcome x) out Short (zeros out)
+      unfolding encodeOutcome report exitOf encodeReport
+      too-short l =
+          let w = written in
+          rw (w .is-body, le-ltb bodyLimit (length (w .body)) few, length-is, lt-ltb (length out) n l) (refl, refl)
+
+      pub whole-body : n ≤ length out → Told (encodeOutcome x) out (Done n) out′
+      unfolding encodeOutcome report exitOf encodeReport
+      whole-body l =
+          let w = written in
+          let q : 0 + length (w .body) ≡ n = omega (arith, length-is) in
+          rw (w .is-body, le-ltb bodyLimit (length (w .body)) few, length-is, le-ltb (length out) n l)
+          (refl, w .wrote .bytes ∙ (put-fits out 0 (w .body) (omega (arith, length-is)) ∙ ap (λ (k : ℕ). w .body ++ drop k out) q))
+
+-- under a sheet that was read, and one that is malformed
+pub under-read : (x : SheetRead) (v n m b : ℕ) (then : List (List ℕ) → ℕ → Outcome) → sheetAnswer x ≡ Read v n m b → underSheet x then ≡ then (typesIn x) (m - 1)
+unfolding underSheet sheetAnswer typesIn
+under-read (sheet sh at) v n m b then e = let q : above 0 (sh .opcodes) ≡ m = cc e in rw q
+under-read (malformed k) v n m b then e = absurd (let z : _≡_ {A = ℕ} 0 1 = cc e in omega arith)
+
+under-none : (x : SheetRead) (k : ℕ) (then : List (List ℕ) → ℕ → Outcome) → sheetAnswer x ≡ Malformed k → underSheet x then ≡ refusedWith 1 k 0
+unfolding underSheet sheetAnswer
+under-none (sheet sh at) k then e = absurd (let z : _≡_ {A = ℕ} 0 1 = cc e in omega arith)
+under-none (malformed j) k then e = let q : j ≡ k = cc e in rw q
+
+module _ (text words : List ℕ) where
+  pub encode-read : (v n m b : ℕ) → sheetAnswer (sheetOf text) ≡ Read v n m b → operation.encode text words ≡ encodeOutcome (encodeRecords (typesIn (sheetOf text)) (m - 1) words)
+  unfolding operation.encode
+  encode-read v n m b e = under-read (sheetOf text) v n m b _ e
+
+  pub encode-none : (k : ℕ) (out : List ℕ) → sheetAnswer (sheetOf text) ≡ Malformed k → Told (operation.encode text words) out (variants.Malformed k) (zeros out)
+  unfolding operation.encode report exitOf encodeReport
+  encode-none k out e = rw (under-none (sheetOf text) k _ e) (refl, refl)

@@ -3,5 +3,4 @@ pub mod ShapeLaws
 pub mod OperandsLoop
 pub mod RecordLaws
 pub mod RecordsLoop
-pub mod SheetBounds
 pub mod EncodeAnswers

@@ -163,7 +163,7 @@ opens-length [] s e = omega arith
 opens-length (a ∷ p) [] e = true-not-false false e refl
 opens-length (a ∷ p) (b ∷ s) e = omega (arith, opens-length p s (both-right (eqb a b) (opens p s) e))
 
--- what passes for every element and the default passes at every index
+-- what passes for every element and the default passes at every index, inside or behind the end
 pub all-at : (p : ℕ → Bool) (s : List ℕ) (d : ℕ) → all p s ≡ true → p d ≡ true → (i : ℕ) → p (getD s i d) ≡ true
 unfolding all
 all-at p [] d e f zero = f

@@ -1,5 +1,5 @@
 use Rattle.decode.proofs.RowLaws.{sum-more, sum-all}
-use Rattle.operands.proofs.ValueLaws.{width-most}
+use Rattle.spec_sheet.proofs.TypeLaws.{width-most}
 use Rattle.spec_sheet.specs.Types.{widthOf}
 use Rattle.spec_body.specs.Record.{sumBy}
 use lib.ListN.{length, getD, take}

@@ -1,7 +1,8 @@
 use Rattle.decode.proofs.PairLaws.{turn}
 use Rattle.decode.proofs.RowLaws.{sum-more, sum-front}
 use Rattle.operands.specs.declared.opcode.Operand.{Operand}
-use Rattle.operands.proofs.ValueLaws.{kind-most, kind-back}
+use Rattle.spec_sheet.proofs.TypeLaws.{kind-most}
+use Rattle.operands.proofs.ValueLaws.{kind-back}
 use Rattle.operands.specs.Value.{operandAt, kindOfValue}
 use Rattle.spec_numbers.specs.LittleEndian.{le}
 use Rattle.lists.specs.Scan.{part}

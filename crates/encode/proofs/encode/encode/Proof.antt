@@ -1,5 +1,5 @@
 use Rattle.encode.proofs.EncodeAnswers.{encode-read, encode-none}
-use Rattle.encode.proofs.SheetBounds.{read-above}
+use Rattle.sheet.proofs.UnderSheet.{read-as, few-opcodes}
 use native.Mathlib.Omega.{arith}
 use mathlib.Core.Path.{sym, _∙_}
 use borrow.Author.Needs.{needs}
@@ -18,7 +18,7 @@ largest-of-requires c κs = search needs
 encode-under-requires : tie.Need-encode-under-requires
 encode-under-requires c κs =
     let t = c .before .before .before .before .before .before .before .before .before .before .before .before .args .text .now in
-    omega (arith, c .before .before .largest-of .ensures, read-above t _ _ _ _ (sym (c .before .before .before .before .before .before .read-sheet .ensures .0) ∙ c .before .before .before .before .s .given .1))
+    omega (arith, c .before .before .largest-of .ensures, few-opcodes t _ (read-as _ _ _ _ _ (sym (c .before .before .before .before .before .before .read-sheet .ensures .0) ∙ c .before .before .before .before .s .given .1)))
 
 enum-known-s-2 : tie.Need-enum-known-s-2
 enum-known-s-2 c = search needs

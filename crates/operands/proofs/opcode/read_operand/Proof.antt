@@ -1,4 +1,4 @@
-use Rattle.operands.proofs.ValueLaws.{width-most}
+use Rattle.spec_sheet.proofs.TypeLaws.{width-most}
 use Rattle.operands.specs.Value.{operandAt}
 use native.Mathlib.Omega.{arith}
 use borrow.Author.Needs.{needs}

@@ -1,7 +1,7 @@
 -- What decoding answers and leaves, case by case. Assumes nothing.
-use mathlib.Core.Path.{_≡_, refl, ap, sym, _∙_}
+use mathlib.Core.Path.{_≡_, refl}
 use mathlib.Core.List.{List, _++_}
-use Prim.Native.Nat.{ℕ, _+_, _*_, _/_, _≤_, _<_}
+use Prim.Native.Nat.{ℕ, _*_, _/_, _≤_, _<_}
 use native.Mathlib.Omega.{arith}
 use lib.ListN.{length, drop, replicate}
 use borrow.Author.Tests.{lt-ltb, le-ltb}
@@ -9,8 +9,7 @@ use Rattle.spec_body.specs.Record.{join}
 use Rattle.spec_body.specs.Decode.{Decoded}
 use Rattle.spec_body.specs.Decode.Decoded.{decoded, beyond, cut}
 use Rattle.spec_body.specs.Operation.{report, exitOf, Outcome, decodeOutcome}
-use Rattle.spec_body.specs.Operation.Outcome.{result, refusedWith}
-use Rattle.spec_answers.specs.Report.{Report}
+use Rattle.spec_body.specs.Operation.Outcome.{refusedWith}
 use Rattle.decode.specs.Bodies.{bodyOf, decodeReport}
 use Rattle.decode.specs.declared.instructions.Body.the-variants.{Records, Beyond, Cut}
 use Rattle.decode.specs.declared.instructions.DecodeAnswer.{DecodeAnswer}

@@ -1,19 +1,17 @@
 -- The loop over a body's instructions. Assumes nothing.
 use mathlib.Core.Path.{_≡_, refl, ap, sym, _∙_}
-use mathlib.Core.Bool.{Bool, true, false}
 use mathlib.Core.List.{List, [], _∷_, _++_, append-assoc, append-nil}
-use Prim.Native.Nat.{ℕ, zero, suc, _+_, _-_, _*_, _≤_, _<_}
+use Prim.Native.Nat.{ℕ, suc, _+_, _-_, _*_, _≤_, _<_}
 use native.Mathlib.Nat.{sub-zero}
 use native.Mathlib.Omega.{arith}
 use lib.ListN.{length, take, drop, getD, length-append}
-use lib.Seq.{take-at, drop-drop, drop-at, drop-length}
-use borrow.Author.Tests.{le-leb, lt-leb}
+use lib.Seq.{take-at, drop-drop, drop-at}
+use borrow.Author.Tests.{le-leb}
 use Rattle.spec_body.specs.Record.{lengthOf, recordOf, join}
 use Rattle.spec_body.specs.Decode.{Decoded, prepend, rowAt, decodeFrom, decodeBody}
 use Rattle.spec_body.specs.Decode.Decoded.{decoded, beyond, cut}
 use Rattle.spec_body.proofs.DecodeLaws.{length-record, at-end, at-beyond, at-cut, at-more}
-use Rattle.decode.specs.Bodies.{storedAt, bodyOf}
-use Rattle.decode.specs.declared.instructions.Body.the-variants.{Records, Beyond, Cut}
+use Rattle.decode.specs.Bodies.{storedAt}
 
 -- several records in front of those that are decoded
 pub prependAll : List (List ℕ) → Decoded → Decoded

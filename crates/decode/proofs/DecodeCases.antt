@@ -1,23 +1,22 @@
 -- The operations of decoding, case by case. Assumes nothing.
-use mathlib.Core.Path.{_≡_, refl, ap, sym, _∙_}
-use mathlib.Core.Bool.{Bool, true, false}
+use mathlib.Core.Path.{_≡_, sym}
+use mathlib.Core.Bool.{true, false}
 use mathlib.Core.List.{List}
-use Prim.Native.Nat.{ℕ, _+_, _-_, _*_, _/_, _≤_, _<_}
+use Prim.Native.Nat.{ℕ, _+_, _-_, _*_, _≤_, _<_}
 use native.Mathlib.Omega.{arith}
 use lib.Dec.{leb, ltb}
 use Rattle.lists.specs.Choice.{both}
 use lib.ListN.{length}
 use Rattle.lists.proofs.Tests.{both-left, both-right}
 use borrow.Author.Tests.{lt-ltb, le-ltb, le-leb, lt-leb, ltb-true, leb-true}
-use Rattle.lists.specs.Scan.{part}
-use Rattle.spec_sheet.specs.Sheet.{SheetRead, sheetOf, typeRows, largest, above}
+use Rattle.spec_sheet.specs.Sheet.{SheetRead, sheetOf}
 use Rattle.spec_sheet.specs.Sheet.SheetRead.{sheet, malformed}
 use Rattle.sheet.specs.Sheets.{typesIn}
 use Rattle.sheet.proofs.UnderSheet.{ReadAs}
 use Rattle.spec_body.specs.Decode.{decodeBody}
 use Rattle.spec_body.specs.Function.{inArea, offsetOf, sizeOf, functionCount, bodyOf}
-use Rattle.spec_body.specs.Operation.{Outcome, decodeOutcome, underSheet, functionOutcome, decode, decodeFunction}
-use Rattle.spec_body.specs.Operation.Outcome.{result, refusedWith}
+use Rattle.spec_body.specs.Operation.{Outcome, decodeOutcome, underSheet, functionOutcome, decode}
+use Rattle.spec_body.specs.Operation.Outcome.{refusedWith}
 
 -- under a sheet that was read, and under none
 pub under-read : (x : SheetRead) (m : ℕ) (r : ReadAs x m) (then : List (List ℕ) → ℕ → Outcome) → underSheet x then ≡ then (typesIn x) (m - 1)

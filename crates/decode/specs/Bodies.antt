@@ -1,6 +1,5 @@
 -- What the decoder's inner functions answer and leave. Assumes nothing.
-use Prim.Native.Nat.{ℕ, zero, _+_, _*_}
-use mathlib.Core.Bool.{Bool, true, false}
+use Prim.Native.Nat.{ℕ, _+_, _*_}
 use mathlib.Core.List.{List, _++_}
 use lib.Dec.{leb}
 use lib.ListN.{length, take, drop}

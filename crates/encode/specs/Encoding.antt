@@ -1,7 +1,7 @@
 -- What the functions that encode answer, and what they write. Assumes nothing.
 use mathlib.Core.Path.{_≡_}
 use mathlib.Core.List.{List}
-use Prim.Native.Nat.{ℕ, zero, _<_}
+use Prim.Native.Nat.{ℕ, _<_}
 use lib.ListN.{drop}
 use Rattle.lists.specs.Scan.{part}
 use Rattle.lists.specs.Write.{Put}

@@ -1,10 +1,10 @@
 -- Scans of a list by a test on its elements. Assumes nothing.
-use Prim.Native.Nat.{ℕ, zero, suc, _+_, _<_}
+use Prim.Native.Nat.{ℕ, suc, _<_}
 use mathlib.Core.Bool.{Bool, true, false}
 use mathlib.Core.List.{List, [], _∷_}
-use lib.ListN.{length, take, drop, getD}
+use lib.ListN.{take, drop, getD}
 use lib.Dec.{eqb}
-use Rattle.lists.specs.Choice.{both, pick}
+use Rattle.lists.specs.Choice.{both}
 
 -- every element is a byte
 abbrev pub Bytes : List ℕ → Type 0

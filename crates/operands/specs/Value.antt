@@ -1,6 +1,5 @@
 -- An operand's value as the enum OperandValue. Assumes nothing.
-use Prim.Native.Nat.{ℕ, zero, _%_, _^_}
-use mathlib.Core.Bool.{Bool, true, false}
+use Prim.Native.Nat.{ℕ, _%_}
 use mathlib.Core.List.{List}
 use lib.Dec.{eqb}
 use lib.Ieee.{ofBits, binary64}

@@ -1,21 +1,18 @@
 -- The loop over a sheet's opcode lines. Assumes nothing.
 use mathlib.Core.Path.{_≡_, refl, ap, sym, _∙_}
-use mathlib.Core.Bool.{Bool, true, false}
 use mathlib.Core.List.{List, [], _∷_, _++_}
-use Prim.Native.Nat.{ℕ, zero, suc, _+_, _-_, _≤_, _<_}
+use Prim.Native.Nat.{ℕ, suc, _+_, _-_, _≤_, _<_}
 use native.Mathlib.Nat.{sub-zero}
 use native.Mathlib.Omega.{arith}
-use lib.ListN.{length, set, length-append}
-use Rattle.lists.specs.Choice.{pick}
-use Rattle.spec_sheet.specs.Line.{Op, LineRead, lineAt, nameOf, typeRow, infoRow}
+use lib.ListN.{length, length-append}
+use Rattle.spec_sheet.specs.Line.{Op, LineRead, lineAt, typeRow, infoRow}
 use Rattle.spec_sheet.specs.Line.LineRead.{line, noLine}
-use Rattle.spec_sheet.specs.Sheet.{mayFollow, accepted, onLine, OpsRead, opsFrom, fill, above, typeRows, infoRows, noTypeRows, noInfoRows}
+use Rattle.spec_sheet.specs.Sheet.{accepted, onLine, OpsRead, opsFrom, fill, above, typeRows, infoRows, noTypeRows, noInfoRows}
 use Rattle.spec_sheet.specs.Sheet.OpsRead.{allRead, faultAfter}
 use Rattle.spec_sheet.proofs.OpLaws.{line-good}
 use Rattle.spec_sheet.proofs.FillLaws.{fill-more, above-more, accepted-is}
-use Rattle.sheet.specs.Sheets.{turnOf, typesStored, infosStored, opsOf}
+use Rattle.sheet.specs.Sheets.{turnOf, typesStored, infosStored}
 use Rattle.sheet.specs.declared.scan.Step.the-variants.{Next, Off}
-use Rattle.sheet.specs.declared.opcode.Ops.the-variants.{All, FaultAfter}
 
 -- i lines were read, the tables hold them, and those from `at` on complete them
 pub record Going (s : List ℕ) (types infos : List (List ℕ)) (from count at least i : ℕ) : Type 0 where

@@ -1,18 +1,17 @@
 -- The loop over a line's operand types. Assumes nothing.
 use mathlib.Core.Path.{_≡_, refl, ap, sym, _∙_}
-use mathlib.Core.Bool.{Bool, true, false}
+use mathlib.Core.Bool.{true, false}
 use mathlib.Core.List.{List, [], _∷_, _++_}
-use Prim.Native.Nat.{ℕ, zero, suc, _+_, _-_, _≤_, _<_}
+use Prim.Native.Nat.{ℕ, suc, _+_, _-_, _≤_, _<_}
 use native.Mathlib.Omega.{arith}
 use lib.Dec.{eqb}
 use lib.ListN.{length, getD, set, replicate, length-append}
-use borrow.Author.Tests.{eq-eqb, ne-eqb}
 use Rattle.lists.proofs.Parts.{fill-next}
 use Rattle.spec_sheet.specs.Scan.{typeAt, after}
 use Rattle.spec_sheet.specs.Scan.Step.{next, off}
 use Rattle.spec_sheet.specs.Line.{TypesRead, withType, typesFrom}
 use Rattle.spec_sheet.specs.Line.TypesRead.{types, noTypes}
-use Rattle.sheet.specs.Lines.{typesOf, eight}
+use Rattle.sheet.specs.Lines.{typesOf}
 use Rattle.sheet.specs.declared.line.Types.{Types}
 
 -- several types in front of those that are read

@@ -1,5 +1,5 @@
 -- The answers of the sheet's functions, as their definitions give them. Assumes nothing.
-use Prim.Native.Nat.{ℕ, zero}
+use Prim.Native.Nat.{ℕ}
 use mathlib.Core.Bool.{Bool, true, false}
 use Rattle.spec_sheet.specs.Scan as scan
 use Rattle.spec_sheet.specs.Scan.{isDigit, isNameByte}

@@ -1,13 +1,13 @@
 -- The answers of the functions that read a sheet's opcode lines. Assumes nothing.
-use Prim.Native.Nat.{ℕ, zero, _-_}
-use mathlib.Core.Bool.{Bool, true, false}
-use mathlib.Core.List.{List, [], _∷_, _++_}
+use Prim.Native.Nat.{ℕ, _-_}
+use mathlib.Core.Bool.{true, false}
+use mathlib.Core.List.{List, [], _++_}
 use lib.ListN.{length, replicate}
 use Rattle.spec_sheet.specs.Line as spec
 use Rattle.spec_sheet.specs.Line.TypesRead.{types, noTypes}
 use Rattle.spec_sheet.specs.Line.HeadRead.{head, noHead}
 use Rattle.spec_sheet.specs.Line.LineRead.{line, noLine}
-use Rattle.spec_sheet.specs.Line.{Op, typeRow, infoRow}
+use Rattle.spec_sheet.specs.Line.{typeRow, infoRow}
 use Rattle.sheet.specs.declared.line.Types.{Types}
 use Rattle.sheet.specs.declared.line.Line.{Line}
 use Rattle.sheet.specs.declared.line.Head.{Head}

@@ -1,5 +1,5 @@
 -- What every operation answers, and what it leaves in lent space (document 01, 'Numbers the desk returns'). Assumes nothing.
-use Prim.Native.Nat.{ℕ, zero, _+_}
+use Prim.Native.Nat.{ℕ}
 use mathlib.Core.List.{List, _++_}
 use lib.ListN.{length, drop, replicate}
 

@@ -1,11 +1,11 @@
 -- The tables of every sheet that is read are good, so both round trips hold under any sheet. Assumes nothing.
 use mathlib.Core.Path.{_≡_}
 use mathlib.Core.List.{List}
-use Prim.Native.Nat.{ℕ, _*_, _/_, _≤_}
+use Prim.Native.Nat.{ℕ, _*_, _/_}
 use native.Mathlib.Omega.{arith}
 use lib.ListN.{length}
 use Rattle.lists.specs.Scan.{Bytes}
-use Rattle.spec_sheet.specs.Sheet.{Sheet, sheetOf, typeRows, largest}
+use Rattle.spec_sheet.specs.Sheet.{Sheet, sheetOf, typeRows}
 use Rattle.spec_sheet.specs.Sheet.SheetRead.{sheet}
 use Rattle.spec_sheet.proofs.RowLaws.{sheet-types, sheet-above-most}
 use Rattle.spec_sheet.proofs.SheetLaws.{whole-sheet}

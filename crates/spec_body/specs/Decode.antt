@@ -1,5 +1,4 @@
 -- Decoding a body: `decode_function_instructions` (document 01, 'Decoder and encoder'). Assumes nothing.
-use mathlib.Core.Bool.{Bool, true, false}
 use mathlib.Core.List.{List, [], _∷_}
 use Prim.Native.Nat.{ℕ, zero, suc, _+_}
 use lib.Dec.{leb, ltb}

@@ -1,14 +1,13 @@
 -- The operations on bodies and records, with their refusals in document 01's order. Assumes nothing.
-use mathlib.Core.Bool.{Bool, true, false}
-use mathlib.Core.List.{List, [], _∷_}
-use Prim.Native.Nat.{ℕ, zero, suc, _+_, _*_}
-use lib.Dec.{leb, ltb}
+use mathlib.Core.List.{List}
+use Prim.Native.Nat.{ℕ}
+use lib.Dec.{ltb}
 use lib.ListN.{length}
 use Rattle.lists.specs.Choice.{pick}
-use Rattle.spec_sheet.specs.Sheet.{Sheet, SheetRead, sheetOf, typeRows, largest}
+use Rattle.spec_sheet.specs.Sheet.{SheetRead, sheetOf, typeRows, largest}
 use Rattle.spec_sheet.specs.Sheet.SheetRead.{sheet, malformed}
 use Rattle.spec_answers.specs.Report.{Report, refusal, success, zeros, written}
-use Rattle.spec_body.specs.Record.{join, recordWords}
+use Rattle.spec_body.specs.Record.{join}
 use Rattle.spec_body.specs.Decode.{Decoded, decodeBody}
 use Rattle.spec_body.specs.Decode.Decoded.{decoded, beyond, cut}
 use Rattle.spec_body.specs.Function.{inArea, bodyOf, sizeOf}

@@ -1,9 +1,8 @@
 -- The record of a decoded instruction (document 01, 'Decoder and encoder'). Assumes nothing.
-use mathlib.Core.Bool.{Bool, true, false}
 use mathlib.Core.List.{List, [], _∷_, _++_}
-use Prim.Native.Nat.{ℕ, zero, suc, _+_}
+use Prim.Native.Nat.{ℕ, _+_}
 use lib.Dec.{eqb}
-use lib.ListN.{take, drop, getD}
+use lib.ListN.{getD}
 use Rattle.lists.specs.Choice.{pick}
 use Rattle.lists.specs.Scan.{part}
 use Rattle.spec_numbers.specs.LittleEndian.{le}

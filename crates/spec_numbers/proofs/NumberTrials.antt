@@ -1,7 +1,7 @@
 -- Trials of the definitions of numbers, by computing. Assumes nothing.
 use mathlib.Core.Path.{_≡_, refl}
 use mathlib.Core.List.{[], _∷_}
-use Prim.Native.Nat.{_-_, _^_}
+use Prim.Native.Nat.{_-_}
 use Rattle.lists.specs.Text.{text}
 use Rattle.spec_numbers.specs.LittleEndian.{le, leBytes}
 use Rattle.spec_numbers.specs.TwosComplement.{signed, wrapSub, wrapAdd, extend8}

@@ -1,11 +1,10 @@
 -- Doubles by their 64 bits, printed and read (document 01, 'Listing', the paragraph on Double). Assumes nothing.
-use Prim.Native.Nat.{ℕ, zero, suc, _+_, _-_, _*_, _/_, _%_, _^_}
-use mathlib.Core.Bool.{Bool, true, false}
+use Prim.Native.Nat.{ℕ, _+_, _-_, _*_, _/_, _%_, _^_}
 use mathlib.Core.List.{List, [], _∷_, _++_}
 use lib.Count.{leadingZeros}
 use lib.Dec.{eqb, ltb, leb}
-use lib.ListN.{length, take, drop, getD}
-use Rattle.lists.specs.Choice.{pick, both}
+use lib.ListN.{length, drop, getD}
+use Rattle.lists.specs.Choice.{pick}
 use Rattle.lists.specs.Scan.{same, opens}
 use Rattle.lists.specs.Text.{text}
 use Rattle.spec_numbers.specs.Print.{decimal, hexUpper16}
@@ -48,7 +47,7 @@ negative = 2 ^ 63
 unfoldable pub signText : ℕ → List ℕ
 signText sign = pick (eqb sign 0) [] (45 ∷ [])
 
--- the two words that are infinities without their sign, and the mark of the hex form
+-- the word for an infinity without its sign, and the mark of the hex form
 unfoldable pub infinityText : List ℕ
 infinityText = text "Infinity"
 

@@ -1,7 +1,7 @@
 -- What holds of every opcode whose line was read. Assumes nothing.
-use mathlib.Core.Path.{_≡_, refl, ap, sym, _∙_}
+use mathlib.Core.Path.{_≡_, refl, sym, _∙_}
 use mathlib.Core.Bool.{Bool, true, false}
-use mathlib.Core.List.{List, [], _∷_, _++_}
+use mathlib.Core.List.{List, [], _∷_}
 use Prim.Native.Nat.{ℕ, zero, suc, _+_, _≤_, _<_}
 use native.Mathlib.Omega.{arith}
 use lib.Dec.{eqb}
@@ -10,9 +10,9 @@ use Rattle.lists.specs.Choice.{pick}
 use Rattle.lists.specs.Scan.{run}
 use Rattle.lists.specs.Text.{text}
 use Rattle.lists.proofs.Tests.{by-test}
-use Rattle.spec_sheet.specs.Scan.{Step, isNameByte, mayBeName, nameAt, typeAt, keyedAt, literalAt, lineEnd, after}
-use Rattle.spec_sheet.specs.Scan.Step.{next, off}
-use Rattle.spec_sheet.specs.Line.{Op, TypesRead, HeadRead, LineRead, withType, typesFrom, typesAt, headAt, jumpAt, lineTypes, lineHead, lineAt}
+use Rattle.spec_sheet.specs.Scan.{isNameByte, mayBeName, nameAt, typeAt, keyedAt, literalAt, lineEnd}
+use Rattle.spec_sheet.specs.Scan.Step.{next}
+use Rattle.spec_sheet.specs.Line.{Op, TypesRead, HeadRead, withType, typesFrom, typesAt, headAt, jumpAt, lineTypes, lineHead, lineAt}
 use Rattle.spec_sheet.specs.Line.TypesRead.{types, noTypes}
 use Rattle.spec_sheet.specs.Line.HeadRead.{head, noHead}
 use Rattle.spec_sheet.specs.Line.LineRead.{line, noLine}

@@ -1,17 +1,17 @@
 -- Laws of readings at a place, case by case. Assumes nothing.
-use mathlib.Core.Path.{_≡_, refl, ap, sym, _∙_}
-use mathlib.Core.Bool.{Bool, true, false}
-use mathlib.Core.List.{List, [], _∷_}
-use Prim.Native.Nat.{ℕ, suc, _+_, _≤_, _<_}
+use mathlib.Core.Path.{_≡_, refl, sym, _∙_}
+use mathlib.Core.Bool.{true, false}
+use mathlib.Core.List.{List}
+use Prim.Native.Nat.{ℕ, _+_, _≤_, _<_}
 use native.Mathlib.Omega.{arith}
 use lib.Dec.{eqb, ltb}
-use lib.ListN.{length, drop, getD}
+use lib.ListN.{drop, getD}
 use borrow.Author.Tests.{eq-eqb, ne-eqb}
 use Rattle.lists.specs.Choice.{both}
 use Rattle.lists.proofs.Tests.{by-eqb, by-test}
 use Rattle.spec_numbers.proofs.ParseLaws.{unsigned-bound}
 use Rattle.spec_sheet.proofs.TypeLaws.{type-code-bound}
-use Rattle.lists.specs.Scan.{run, part, opens}
+use Rattle.lists.specs.Scan.{run, part}
 use Rattle.spec_numbers.specs.Parse.{Parsed, unsignedValue}
 use Rattle.spec_numbers.specs.Parse.Parsed.{is, bad}
 use Rattle.spec_sheet.specs.Types.{typeCode}

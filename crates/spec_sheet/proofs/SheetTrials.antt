@@ -1,20 +1,19 @@
 -- Sheets that are taken, and one refused for each kind of fault, by computing the definitions. Assumes nothing.
 use mathlib.Core.Path.{_≡_, refl}
-use mathlib.Core.List.{List, [], _∷_, _++_}
-use Prim.Native.Nat.{ℕ, zero, suc, _+_, _^_}
-use mathlib.Core.Bool.{Bool, true, false}
+use mathlib.Core.List.{List, [], _∷_}
+use Prim.Native.Nat.{ℕ, zero}
+use mathlib.Core.Bool.{Bool, true}
 use lib.ListN.{length}
 use Rattle.lists.specs.Choice.{both}
 use Prim.Native.String.{String}
 use Rattle.lists.specs.Text.{text}
 use Rattle.lists.specs.Scan.{run, same, opens}
-use Rattle.lists.specs.Found.{Found}
-use Rattle.lists.specs.Found.Found.{found, missing}
+use Rattle.lists.specs.Found.Found.{missing}
 use Rattle.spec_numbers.specs.Parse.{digitValue, digitsValue, unsignedValue}
 use Rattle.spec_sheet.specs.Types.{typeNames, typeCodeIn, typeCode}
 use Rattle.spec_sheet.specs.Scan.{after, literalAt, isNameByte, numberRead, numberAt, keyedAt, mayBeName, nameAt, typeAt}
-use Rattle.spec_sheet.specs.Line.{Op, withType, typesFrom, typesAt, headAt, lineTypes, lineHead, lineAt, typeRow, infoRow}
-use Rattle.spec_sheet.specs.Sheet.{fill, infoRows, typeRows, hasName, findName, isMissing, mayFollow, accepted, onLine, opsFrom, sheetOps, sheetAt, endsAt, sheetOf, SheetRead, above, largest}
+use Rattle.spec_sheet.specs.Line.{withType, typesFrom, typesAt, headAt, lineTypes, lineHead, lineAt, typeRow, infoRow}
+use Rattle.spec_sheet.specs.Sheet.{fill, hasName, findName, isMissing, mayFollow, accepted, onLine, opsFrom, sheetOps, sheetAt, endsAt, sheetOf, SheetRead, above, largest}
 use Rattle.spec_sheet.specs.Sheet.SheetRead.{sheet, malformed}
 
 -- what a sheet's reading comes to: 0 and its version, largest opcode and count, or the malformed line

@@ -1,6 +1,5 @@
 -- A line of a sheet that says one opcode: `op=18 name=Jmp jump=1 types=Addr8`. Assumes nothing.
 use Prim.Native.Nat.{ℕ, zero, suc, _+_, _-_}
-use mathlib.Core.Bool.{Bool, true, false}
 use mathlib.Core.List.{List, [], _∷_, _++_}
 use lib.Dec.{eqb}
 use lib.ListN.{length, getD, replicate}
@@ -8,7 +7,6 @@ use Rattle.lists.specs.Choice.{pick}
 use Rattle.lists.specs.Scan.{part}
 use Rattle.lists.specs.Text.{text}
 use Rattle.spec_sheet.specs.Scan.{Step, after, literalAt, keyedAt, nameAt, typeAt, lineEnd}
-use Rattle.spec_sheet.specs.Scan.Step.{next, off}
 
 -- an opcode: its number, where its name stands in the text and how long it is, its jump mark and its operand types
 pub record Op : Type 0 where

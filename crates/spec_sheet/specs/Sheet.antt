@@ -9,8 +9,7 @@ use Rattle.lists.specs.Scan.{same, part}
 use Rattle.lists.specs.Text.{text}
 use Rattle.lists.specs.Found.{Found}
 use Rattle.lists.specs.Found.Found.{found, missing}
-use Rattle.spec_sheet.specs.Scan.{Step, after, keyedAt, lineEnd}
-use Rattle.spec_sheet.specs.Scan.Step.{next, off}
+use Rattle.spec_sheet.specs.Scan.{after, keyedAt, lineEnd}
 use Rattle.spec_sheet.specs.Line.{Op, nameOf, LineRead, lineAt, typeRow, infoRow}
 use Rattle.spec_sheet.specs.Line.LineRead.{line, noLine}
 

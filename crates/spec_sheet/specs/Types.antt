@@ -1,6 +1,5 @@
 -- The twelve operand types (document 01, 'Opcode sheet'; OperandType of opcode.rs). Assumes nothing.
-use Prim.Native.Nat.{ℕ, zero, suc}
-use mathlib.Core.Bool.{Bool, true, false}
+use Prim.Native.Nat.{ℕ, suc}
 use mathlib.Core.List.{List, [], _∷_}
 use lib.ListN.{getD}
 use Rattle.lists.specs.Choice.{pick}

@@ -1,8 +1,8 @@
 -- Escapes as util.rs writes them and as `unquote` of parse.rs reads them (document 01, 'Strings'). Assumes nothing.
-use Prim.Native.Nat.{ℕ, _+_}
+use Prim.Native.Nat.{ℕ}
 use mathlib.Core.Bool.{Bool, true, false}
 use mathlib.Core.List.{List, [], _∷_, _++_}
-use lib.Dec.{eqb, leb, ltb}
+use lib.Dec.{eqb, leb}
 use Rattle.lists.specs.Choice.{pick, within}
 use Rattle.spec_numbers.specs.Print.{hexUpper, hexUpper4}
 use Rattle.spec_strings.specs.Utf8.{chars}

@@ -1,9 +1,8 @@
 -- Document 01's starred trials on its own sheet: one list with a common proof. Assumes nothing.
 use mathlib.Core.Path.{_≡_, refl}
-use mathlib.Core.Bool.{Bool, true, false}
-use mathlib.Core.List.{List, [], _∷_, _++_}
-use Prim.Native.Nat.{ℕ, zero, suc}
-use lib.ListN.{length}
+use mathlib.Core.Bool.{Bool, true}
+use mathlib.Core.List.{List, [], _∷_}
+use Prim.Native.Nat.{ℕ}
 use Rattle.lists.specs.Choice.{both}
 use Rattle.lists.specs.Scan.{run, same, opens}
 use Rattle.lists.specs.Text.{text}
@@ -13,10 +12,9 @@ use Rattle.spec_sheet.specs.Types.{typeNames, typeCodeIn, typeCode, widthOf, ki
 use Rattle.spec_sheet.specs.Scan.{after, literalAt, isNameByte, numberRead, numberAt, keyedAt, mayBeName, nameAt, typeAt}
 use Rattle.spec_sheet.specs.Line.{withType, typesFrom, typesAt, headAt, lineTypes, lineHead, lineAt, typeRow, infoRow}
 use Rattle.spec_sheet.specs.Sheet.{fill, hasName, findName, isMissing, mayFollow, accepted, onLine, opsFrom, sheetOps, sheetAt, endsAt, sheetOf, above}
-use Rattle.spec_answers.specs.Report.{Report}
 use Rattle.spec_body.specs.Record.{sumBy, pairs, join}
 use Rattle.spec_body.specs.Decode.{prepend, decodeFrom}
-use Rattle.spec_body.specs.Operation.{Outcome, report, decodeOutcome, underSheet, decode}
+use Rattle.spec_body.specs.Operation.{Outcome, decodeOutcome, underSheet, decode}
 use Rattle.spec_body.specs.Operation.Outcome.{result, refusedWith}
 
 -- the sheet of document 01's job

@@ -1,5 +1,4 @@
 use borrow.Author.Tests.{ne-eqb}
-use borrow.Author.Needs.{needs}
 use Rattle.encode.proofs.encode.one_for.Statement.{statement}
 use Rattle.encode.proofs.encode.one_for.Tie as tie
 

@@ -1,6 +1,5 @@
 use borrow.Author.Tests.{ne-eqb, lt-ltb, le-ltb, le-leb, lt-leb}
 use Rattle.spec_body.specs.Encode.{encodeAddr8}
-use borrow.Author.Needs.{needs}
 use Rattle.encode.proofs.operand.encode_addr8.Statement.{statement}
 use Rattle.encode.proofs.operand.encode_addr8.Tie as tie
 

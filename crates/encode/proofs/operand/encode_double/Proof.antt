@@ -1,6 +1,5 @@
 use borrow.Author.Tests.{ne-eqb}
 use Rattle.spec_body.specs.Encode.{encodeDouble}
-use borrow.Author.Needs.{needs}
 use Rattle.encode.proofs.operand.encode_double.Statement.{statement}
 use Rattle.encode.proofs.operand.encode_double.Tie as tie
 

@@ -149,6 +149,32 @@ fn try_bodies(sheet: &[u8]) {
     try_few(b"one word short", sheet, b"\x04\x01\x04\x02");
 }
 
+// Decodes a function of an area whose base is 100: two whole triples and a word behind them.
+fn try_function(label: &[u8], sheet: &[u8], functions: &[u32], id: usize) {
+    let mut words = [7u64; 20];
+    say(label);
+    let a = decode::instructions::decode_function(
+        sheet,
+        functions,
+        b"\x00\x01\x07\x01\x06\x02\x01\x00\x00\x04\x01",
+        100,
+        id,
+        &mut words,
+    );
+    say_decoded(a);
+    say_words(&words);
+}
+
+fn try_functions(sheet: &[u8]) {
+    try_function(b"function 0", sheet, &[109, 2, 0, 103, 2, 1, 100], 0);
+    try_function(b"function 1", sheet, &[109, 2, 0, 103, 2, 1, 100], 1);
+    try_function(b"function 2", sheet, &[109, 2, 0, 103, 2, 1, 100], 2);
+    try_function(b"below the base", sheet, &[99, 2, 0], 0);
+    try_function(b"past the area", sheet, &[109, 3, 0], 0);
+    try_function(b"up to the end", sheet, &[111, 0, 0], 0);
+    try_function(b"cut in its own body", sheet, &[100, 2, 0], 0);
+}
+
 fn try_records(sheet: &[u8]) {
     try_record(b"U8 200 in Addr8\n", sheet, 1, 1, 0, 200);
     try_record(b"I32 -1 in Addr8\n", sheet, 1, 1, 4, 4294967295);
@@ -173,6 +199,7 @@ fn main() {
     let n = io::read_full(STDIN_FILENO, &mut text);
     let sheet = &text[..n];
     try_bodies(sheet);
+    try_functions(sheet);
     try_records(sheet);
     let mut bytes = [9u8; 4];
     say(b"cut record\n");

@@ -1,0 +1,20 @@
+use Rattle.desk_host.specs.Numbers.{numbersOf}
+use mathlib.Core.Path.{ap, _∙_}
+use borrow.Author.Needs.{needs}
+use Rattle.desk_host.proofs.desk_decode.Statement.{statement}
+use Rattle.desk_host.proofs.desk_decode.Tie as tie
+
+decode-requires : tie.Need-decode-requires
+decode-requires c κs = search needs
+
+decode-numbers-requires : tie.Need-decode-numbers-requires
+decode-numbers-requires c κs = search needs
+
+same-length : tie.Need-same-length
+same-length c = search needs
+
+returns : tie.Need-returns
+returns c = (c .decode-numbers .ensures ∙ ap numbersOf (c .before .before .before .decode .ensures .0), search needs)
+
+pub desk-decode-spec : {M : Type 1} → statement M
+desk-decode-spec = tie.close (tie.spec decode-requires decode-numbers-requires same-length returns)

@@ -1,0 +1,20 @@
+use Rattle.desk_host.specs.Numbers.{numbersOf}
+use mathlib.Core.Path.{ap, _∙_}
+use borrow.Author.Needs.{needs}
+use Rattle.desk_host.proofs.desk_encode.Statement.{statement}
+use Rattle.desk_host.proofs.desk_encode.Tie as tie
+
+encode-requires : tie.Need-encode-requires
+encode-requires c κs = search needs
+
+encode-numbers-requires : tie.Need-encode-numbers-requires
+encode-numbers-requires c κs = search needs
+
+same-length : tie.Need-same-length
+same-length c = search needs
+
+returns : tie.Need-returns
+returns c = (c .encode-numbers .ensures ∙ ap numbersOf (c .before .before .before .encode .ensures .0), search needs)
+
+pub desk-encode-spec : {M : Type 1} → statement M
+desk-encode-spec = tie.close (tie.spec encode-requires encode-numbers-requires same-length returns)

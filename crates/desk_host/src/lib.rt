@@ -1,0 +1,108 @@
+// The desk's functions for the host, called from C on numbers and slices: each is the proved operation with its answer as
+// four numbers.
+ghost use mathlib.Core.Path.{_≡_};
+ghost use lib.ListN.{length};
+ghost use Rattle.spec_body.specs.Operation as operation;
+ghost use Rattle.spec_body.specs.Operation.{report, exitOf};
+ghost use Rattle.decode.specs.Bodies.{decodeReport};
+ghost use Rattle.encode.specs.Encoding.{encodeReport};
+ghost use Rattle.desk_host.specs.Numbers.{numbersOf};
+ghost use Rattle.spec_answers.specs.Report.{refusal, success};
+use decode::instructions::DecodeAnswer;
+use encode::encode::EncodeAnswer;
+
+// Number, place and operand of a refusal, or three zeros and the length.
+#[repr(C)]
+pub struct DeskAnswer {
+    pub number: u64,
+    pub place: u64,
+    pub operand: u64,
+    pub length: u64,
+}
+
+fn done(n: usize) -> DeskAnswer
+    ensures { λ r. ⌜ r ≡ numbersOf (success n) ⌝ }
+{
+    DeskAnswer {
+        number: 0,
+        place: 0,
+        operand: 0,
+        length: n as u64,
+    }
+}
+
+fn refused(number: u64, place: usize, operand: usize) -> DeskAnswer
+    ensures { λ r. ⌜ r ≡ numbersOf (refusal number place operand) ⌝ }
+{
+    DeskAnswer {
+        number,
+        place: place as u64,
+        operand: operand as u64,
+        length: 0,
+    }
+}
+
+// The numbers of decoding's answer.
+pub fn decode_numbers(a: DecodeAnswer) -> DeskAnswer
+    ensures { λ r. ⌜ r ≡ numbersOf (decodeReport a) ⌝ }
+{
+    match a {
+        DecodeAnswer::Done(n) => done(n),
+        DecodeAnswer::Malformed(line) => refused(1, line, 0),
+        DecodeAnswer::TooLarge => refused(18, 0, 0),
+        DecodeAnswer::NoFunction(id) => refused(20, id, 0),
+        DecodeAnswer::Beyond(at) => refused(13, at, 0),
+        DecodeAnswer::Cut(at) => refused(14, at, 0),
+        DecodeAnswer::Short => refused(19, 0, 0),
+    }
+}
+
+// The numbers of encoding's answer.
+pub fn encode_numbers(a: EncodeAnswer) -> DeskAnswer
+    ensures { λ r. ⌜ r ≡ numbersOf (encodeReport a) ⌝ }
+{
+    match a {
+        EncodeAnswer::Done(n) => done(n),
+        EncodeAnswer::Malformed(line) => refused(1, line, 0),
+        EncodeAnswer::Shape(i) => refused(15, i, 0),
+        EncodeAnswer::Beyond(i) => refused(13, i, 0),
+        EncodeAnswer::Count(i) => refused(5, i, 0),
+        EncodeAnswer::Misfit(i, q) => refused(15, i, q),
+        EncodeAnswer::TooLarge => refused(18, 0, 0),
+        EncodeAnswer::Short => refused(19, 0, 0),
+    }
+}
+
+// Decodes a body under the sheet `text` into records of 20 words.
+#[no_mangle]
+pub extern "C" fn desk_decode(text: &[u8], body: &[u8], out: &mut [u64]) -> DeskAnswer
+    ensures { λ r. ⌜ r ≡ numbersOf (report (operation.decode (now (text .entry)) (now (body .entry))) (length (now (out .entry)))) ⌝ }
+    ensures { λ _. ⌜ now (out .exit) ≡ exitOf (operation.decode (now (text .entry)) (now (body .entry))) (now (out .entry)) ⌝ }
+{
+    decode_numbers(decode::instructions::decode(text, body, out))
+}
+
+// Decodes one function of an area.
+#[no_mangle]
+pub extern "C" fn desk_decode_function(
+    text: &[u8],
+    functions: &[u32],
+    area: &[u8],
+    base: u32,
+    id: usize,
+    out: &mut [u64],
+) -> DeskAnswer
+    ensures { λ r. ⌜ r ≡ numbersOf (report (operation.decodeFunction (now (text .entry)) (now (functions .entry)) (now (area .entry)) base id) (length (now (out .entry)))) ⌝ }
+    ensures { λ _. ⌜ now (out .exit) ≡ exitOf (operation.decodeFunction (now (text .entry)) (now (functions .entry)) (now (area .entry)) base id) (now (out .entry)) ⌝ }
+{
+    decode_numbers(decode::instructions::decode_function(text, functions, area, base, id, out))
+}
+
+// Encodes records of 20 words under the sheet `text` into a body.
+#[no_mangle]
+pub extern "C" fn desk_encode(text: &[u8], words: &[u64], out: &mut [u8]) -> DeskAnswer
+    ensures { λ r. ⌜ r ≡ numbersOf (report (operation.encode (now (text .entry)) (now (words .entry))) (length (now (out .entry)))) ⌝ }
+    ensures { λ _. ⌜ now (out .exit) ≡ exitOf (operation.encode (now (text .entry)) (now (words .entry))) (now (out .entry)) ⌝ }
+{
+    encode_numbers(encode::encode::encode(text, words, out))
+}

@@ -1,0 +1,140 @@
+// The desk's C functions, from slices: Rust's own rules keep the caller's duties.
+
+/// Number, place and operand of a refusal, or three zeros and the length.
+#[repr(C)]
+#[derive(Debug, Clone, Copy, PartialEq, Eq)]
+pub struct Answer {
+    pub number: u64,
+    pub place: u64,
+    pub operand: u64,
+    pub length: u64,
+}
+
+/// 1 and a number, or 0 and 0.
+#[repr(C)]
+#[derive(Debug, Clone, Copy, PartialEq, Eq)]
+pub struct Number {
+    pub found: u64,
+    pub value: u64,
+}
+
+impl Number {
+    pub fn of(n: Option<u64>) -> Self {
+        Number {
+            found: n.is_some() as u64,
+            value: n.unwrap_or(0),
+        }
+    }
+}
+
+mod c {
+    use super::{Answer, Number};
+
+    extern "C" {
+        pub fn desk_decode(text: *const u8, text_len: usize, body: *const u8, body_len: usize, out: *mut u64, out_len: usize) -> Answer;
+        pub fn desk_decode_function(
+            text: *const u8,
+            text_len: usize,
+            functions: *const u32,
+            functions_len: usize,
+            area: *const u8,
+            area_len: usize,
+            base: u32,
+            id: usize,
+            out: *mut u64,
+            out_len: usize,
+        ) -> Answer;
+        pub fn desk_encode(text: *const u8, text_len: usize, words: *const u64, words_len: usize, out: *mut u8, out_len: usize) -> Answer;
+
+        pub fn part_parse_u32(text: *const u8, text_len: usize) -> Number;
+        pub fn part_parse_hex(text: *const u8, text_len: usize) -> Number;
+        pub fn part_parse_i32(text: *const u8, text_len: usize) -> Number;
+        pub fn part_parse_double(text: *const u8, text_len: usize) -> Number;
+        pub fn part_print_decimal(n: u64, out: *mut u8, out_len: usize) -> usize;
+        pub fn part_print_signed(bits: u32, out: *mut u8, out_len: usize) -> usize;
+        pub fn part_print_hex4(n: u64, out: *mut u8, out_len: usize) -> usize;
+        pub fn part_print_double(bits: u64, out: *mut u8, out_len: usize) -> usize;
+        pub fn part_escape(text: *const u8, text_len: usize, out: *mut u8, out_len: usize) -> usize;
+        pub fn part_unescape(text: *const u8, text_len: usize, out: *mut u8, out_len: usize) -> usize;
+        pub fn part_is_utf8(text: *const u8, text_len: usize) -> bool;
+        pub fn part_table_fault(bytes: *const u8, bytes_len: usize, ends: *const u32, ends_len: usize) -> Number;
+        pub fn part_lookup(text: *const u8, text_len: usize, bytes: *const u8, bytes_len: usize, ends: *const u32, ends_len: usize) -> Number;
+    }
+}
+
+pub fn decode(text: &[u8], body: &[u8], out: &mut [u64]) -> Answer {
+    unsafe { c::desk_decode(text.as_ptr(), text.len(), body.as_ptr(), body.len(), out.as_mut_ptr(), out.len()) }
+}
+
+pub fn decode_function(text: &[u8], functions: &[u32], area: &[u8], base: u32, id: usize, out: &mut [u64]) -> Answer {
+    unsafe {
+        c::desk_decode_function(
+            text.as_ptr(),
+            text.len(),
+            functions.as_ptr(),
+            functions.len(),
+            area.as_ptr(),
+            area.len(),
+            base,
+            id,
+            out.as_mut_ptr(),
+            out.len(),
+        )
+    }
+}
+
+pub fn encode(text: &[u8], words: &[u64], out: &mut [u8]) -> Answer {
+    unsafe { c::desk_encode(text.as_ptr(), text.len(), words.as_ptr(), words.len(), out.as_mut_ptr(), out.len()) }
+}
+
+pub fn parse_u32(text: &[u8]) -> Number {
+    unsafe { c::part_parse_u32(text.as_ptr(), text.len()) }
+}
+
+pub fn parse_hex(text: &[u8]) -> Number {
+    unsafe { c::part_parse_hex(text.as_ptr(), text.len()) }
+}
+
+pub fn parse_i32(text: &[u8]) -> Number {
+    unsafe { c::part_parse_i32(text.as_ptr(), text.len()) }
+}
+
+pub fn parse_double(text: &[u8]) -> Number {
+    unsafe { c::part_parse_double(text.as_ptr(), text.len()) }
+}
+
+pub fn print_decimal(n: u64, out: &mut [u8]) -> usize {
+    unsafe { c::part_print_decimal(n, out.as_mut_ptr(), out.len()) }
+}
+
+pub fn print_signed(bits: u32, out: &mut [u8]) -> usize {
+    unsafe { c::part_print_signed(bits, out.as_mut_ptr(), out.len()) }
+}
+
+pub fn print_hex4(n: u64, out: &mut [u8]) -> usize {
+    unsafe { c::part_print_hex4(n, out.as_mut_ptr(), out.len()) }
+}
+
+pub fn print_double(bits: u64, out: &mut [u8]) -> usize {
+    unsafe { c::part_print_double(bits, out.as_mut_ptr(), out.len()) }
+}
+
+pub fn escape(text: &[u8], out: &mut [u8]) -> usize {
+    unsafe { c::part_escape(text.as_ptr(), text.len(), out.as_mut_ptr(), out.len()) }
+}
+
+pub fn unescape(text: &[u8], out: &mut [u8]) -> usize {
+    unsafe { c::part_unescape(text.as_ptr(), text.len(), out.as_mut_ptr(), out.len()) }
+}
+
+pub fn is_utf8(text: &[u8]) -> bool {
+    unsafe { c::part_is_utf8(text.as_ptr(), text.len()) }
+}
+
+pub fn table_fault(bytes: &[u8], ends: &[u32]) -> Number {
+    unsafe { c::part_table_fault(bytes.as_ptr(), bytes.len(), ends.as_ptr(), ends.len()) }
+}
+
+pub fn lookup(text: &[u8], bytes: &[u8], ends: &[u32]) -> Number {
+    unsafe { c::part_lookup(text.as_ptr(), text.len(), bytes.as_ptr(), bytes.len(), ends.as_ptr(), ends.len()) }
+}

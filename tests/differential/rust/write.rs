@@ -1,0 +1,3 @@
+// Stand-in for write/mod.rs.
+pub mod encode;
+pub mod hasm;

@@ -1,5 +1,6 @@
 // The twelve operand types by their codes.
 ghost use mathlib.Core.Path.{_≡_};
+ghost use lib.ListN.{getD};
 ghost use Rattle.spec_sheet.specs.Types.{typeCode, widthOf, familyOf, kindOf};
 use slices::compare::same_bytes;
 
@@ -46,32 +47,41 @@ pub fn type_code(word: &[u8]) -> u8
     0
 }
 
-const WIDTHS: [usize; 13] = [0, 1, 4, 1, 2, 4, 1, 2, 4, 1, 4, 4, 8];
-
-const FAMILIES: [u8; 13] = [0, 1, 1, 2, 2, 2, 3, 3, 3, 4, 4, 5, 6];
-
-const KINDS: [u8; 13] = [0, 0, 2, 0, 1, 2, 0, 1, 2, 3, 4, 4, 5];
+// An entry of a table by type code, and 0 behind its end. The tables are byte strings, which stay where they are: an
+// array constant is built anew at each use.
+fn entry(table: &[u8], code: u8) -> u8
+    ensures { λ r. ⌜ r ≡ getD (now (table .entry)) code 0 ⌝ }
+{
+    let c = code as usize;
+    if c < table.len() { table[c] } else { 0 }
+}
 
 // The bytes of an operand.
 pub fn width(code: u8) -> usize
     ensures { λ r. ⌜ r ≡ widthOf code ⌝ }
 {
-    let c = code as usize;
-    if c < 13 { WIDTHS[c] } else { 0 }
+    entry(
+        b"\x00\x01\x04\x01\x02\x04\x01\x02\x04\x01\x04\x04\x08",
+        code,
+    ) as usize
 }
 
 // The family that a carry keeps.
 pub fn family(code: u8) -> u8
     ensures { λ r. ⌜ r ≡ familyOf code ⌝ }
 {
-    let c = code as usize;
-    if c < 13 { FAMILIES[c] } else { 0 }
+    entry(
+        b"\x00\x01\x01\x02\x02\x02\x03\x03\x03\x04\x04\x05\x06",
+        code,
+    )
 }
 
 // The kind of value that an operand is decoded to.
 pub fn kind(code: u8) -> u8
     ensures { λ r. ⌜ r ≡ kindOf code ⌝ }
 {
-    let c = code as usize;
-    if c < 13 { KINDS[c] } else { 0 }
+    entry(
+        b"\x00\x00\x02\x00\x01\x02\x00\x01\x02\x03\x04\x04\x05",
+        code,
+    )
 }

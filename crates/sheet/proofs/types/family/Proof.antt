@@ -1,20 +1,17 @@
-use Rattle.spec_sheet.specs.Types.{families, familyOf}
-use mathlib.Core.Path.{sym}
-use lib.ListN.{List·getD-eq-default}
+use Rattle.spec_sheet.specs.Types.{familyOf}
 use borrow.Author.Needs.{needs}
 use Rattle.sheet.proofs.types.family.Statement.{statement}
 use Rattle.sheet.proofs.types.family.Tie as tie
 
-array-read-result : tie.Need-array-read-result
-array-read-result c = search needs
+slice-aggregate-entry : tie.Need-slice-aggregate-entry
+slice-aggregate-entry c = search needs
+
+entry-requires : tie.Need-entry-requires
+entry-requires c κs = search needs
 
 returns : tie.Need-returns
 unfolding familyOf
 returns c = search needs
 
-returns-2 : tie.Need-returns-2
-unfolding familyOf
-returns-2 c = sym (List·getD-eq-default families 0 (c .if1 .left))
-
 pub family-spec : {M : Type 1} → statement M
-family-spec = tie.close (tie.spec array-read-result returns returns-2)
+family-spec = tie.close (tie.spec slice-aggregate-entry entry-requires returns)

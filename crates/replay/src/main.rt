@@ -1,0 +1,202 @@
+// Replays recorded cases: reads them from standard input, has the desk answer each, and compares the answer and the lent
+// space with what was recorded. It prints one line: `agree=N` where all N cases agree, else `differs=N` or `broken=N`
+// with the index, from 0, of the first case that differs or is no case.
+//
+// The format. Numbers are u32, little-endian. A case is nine numbers
+//
+//     operation, sheet length, input length, room, number, place, operand, length, expected length
+//
+// and behind them the bytes of the sheet, of the input and of the expected output, as many as the lengths say.
+// - A sheet length of 0 stands for the sheet of the case before; before the first case it is the empty sheet.
+// - `room` is how much space is lent: words where records are decoded, bytes elsewhere. Every byte of it is 0xA5 before
+//   the call.
+// - `number`, `place`, `operand` and `length` are the recorded answer.
+// - The expected output is what the call leaves at the front of the lent space. A word is its 8 little-endian bytes.
+//
+// The operations:
+//
+//     1  decode   input: a body; expected: the words of its records
+//     2  encode   input: the words of records; expected: the body
+//
+// A case agrees where the four numbers are the answer's, the lent space opens with the expected output, and behind it
+// every byte is still 0xA5 (number 0), or every lent byte is 0 (a refusal).
+// A case is broken where the input ends within it, its operation is none of these, its words are cut, or it is too large:
+// a sheet over 16,384 bytes, an input or expected output over 65,536 bytes, a room over 8,192 words or 65,536 bytes, or
+// a case behind the first 1,000,000.
+mod case;
+mod lent;
+mod operations;
+
+use case::Head;
+use case::HeadRead;
+use libc::STDOUT_FILENO;
+use operations::Performed;
+
+// Why the replay stops at a case.
+enum Stop {
+    Differs,
+    Broken,
+    End,
+}
+
+// What comes of one case. Where it agrees, its sheet, which the next case may use, has this many bytes.
+enum Turn {
+    Agrees(usize),
+    Stops(Stop),
+}
+
+// What comes of all cases: the first `agreed` of them agree.
+struct Outcome {
+    stop: Stop,
+    agreed: u64,
+}
+
+const MOST_CASES: u64 = 1000000;
+
+// Runs a case whose parts have been read, and compares. `lent` has as many bytes as the case lends.
+fn compared(
+    head: Head,
+    sheet: &[u8],
+    input: &[u8],
+    expected: &[u8],
+    lent: &mut [u8],
+    words: &mut [u64],
+) -> Turn {
+    lent::fill(lent, lent::MARK);
+    match operations::perform(head.operation, sheet, input, lent, words) {
+        Performed::Answered(a) => {
+            if !operations::same_answer(head, a) {
+                return Turn::Stops(Stop::Differs);
+            }
+            if !lent::is_left(lent, expected, a.number) {
+                return Turn::Stops(Stop::Differs);
+            }
+            Turn::Agrees(sheet.len())
+        }
+        Performed::Broken => Turn::Stops(Stop::Broken),
+    }
+}
+
+// Reads the parts of a case, and compares. `used` is the length of the sheet of the case before.
+fn try_case(
+    head: Head,
+    used: usize,
+    sheet: &mut [u8],
+    input: &mut [u8],
+    expected: &mut [u8],
+    lent: &mut [u8],
+    words: &mut [u64],
+) -> Turn {
+    if !case::read_parts(head, sheet, input, expected) {
+        return Turn::Stops(Stop::Broken);
+    }
+    let room = head.room;
+    if 65536 < room {
+        return Turn::Stops(Stop::Broken);
+    }
+    let s = if head.sheet == 0 { used } else { head.sheet };
+    let n = head.input;
+    let m = head.expected;
+    let size = operations::lent_size(head.operation, room);
+    if sheet.len() < s || input.len() < n || expected.len() < m || lent.len() < size {
+        return Turn::Stops(Stop::Broken);
+    }
+    compared(
+        head,
+        &sheet[0..s],
+        &input[0..n],
+        &expected[0..m],
+        &mut lent[0..size],
+        words,
+    )
+}
+
+// The next case.
+fn next_case(
+    used: usize,
+    sheet: &mut [u8],
+    input: &mut [u8],
+    expected: &mut [u8],
+    lent: &mut [u8],
+    words: &mut [u64],
+) -> Turn {
+    match case::read_head() {
+        HeadRead::Is(head) => try_case(head, used, sheet, input, expected, lent, words),
+        HeadRead::End => Turn::Stops(Stop::End),
+        HeadRead::Broken => Turn::Stops(Stop::Broken),
+    }
+}
+
+// Behind the last case that may be there.
+fn last_stop() -> Stop {
+    if case::at_end() {
+        Stop::End
+    } else {
+        Stop::Broken
+    }
+}
+
+// All cases.
+fn replay(
+    sheet: &mut [u8],
+    input: &mut [u8],
+    expected: &mut [u8],
+    lent: &mut [u8],
+    words: &mut [u64],
+) -> Outcome {
+    let mut used: usize = 0;
+    let mut n: u64 = 0;
+    while n < MOST_CASES {
+        let t = next_case(used, sheet, input, expected, lent, words);
+        match t {
+            Turn::Agrees(s) => {
+                used = s;
+            }
+            Turn::Stops(stop) => {
+                return Outcome { stop, agreed: n };
+            }
+        }
+        n += 1;
+    }
+    Outcome {
+        stop: last_stop(),
+        agreed: n,
+    }
+}
+
+fn say(word: &[u8], n: u64) {
+    io::write_all(STDOUT_FILENO, word);
+    io::print_decimal(STDOUT_FILENO, n);
+    io::write_all(STDOUT_FILENO, b"\n");
+}
+
+fn tell(o: Outcome) {
+    let stop = o.stop;
+    match stop {
+        Stop::Differs => say(b"differs=", o.agreed),
+        Stop::Broken => say(b"broken=", o.agreed),
+        Stop::End => say(b"agree=", o.agreed),
+    }
+}
+
+// Zeros. No contract: the type says the length, and a caller's proof does not compute the list.
+fn sheet_space() -> [u8; 16384] {
+    [0; 16384]
+}
+
+fn byte_space() -> [u8; 65536] {
+    [0; 65536]
+}
+
+fn word_space() -> [u64; 8192] {
+    [0; 8192]
+}
+
+fn main() {
+    let mut sheet = sheet_space();
+    let mut input = byte_space();
+    let mut expected = byte_space();
+    let mut lent = byte_space();
+    let mut words = word_space();
+    tell(replay(&mut sheet, &mut input, &mut expected, &mut lent, &mut words));
+}

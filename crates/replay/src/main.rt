@@ -15,12 +15,28 @@
 //
 // The operations:
 //
-//     1  decode   input: a body; expected: the words of its records
-//     2  encode   input: the words of records; expected: the body
+//     1  decode              input: a body; expected: the words of its records
+//     2  encode              input: the words of records; expected: the body
+//     3  part_parse_u32      input: a text; expected: the value's 8 bytes, or nothing where the text is no number
+//     4  part_parse_hex      as 3
+//     5  part_parse_i32      as 3; the value is the 32 bits of the number
+//     6  part_parse_double   as 3; the value is the 64 bits of the double
+//     7  part_print_decimal  input: a number's 8 bytes; expected: its text
+//     8  part_print_signed   as 7, for the 32 bits of a number
+//     9  part_print_hex4     as 7
+//    10  part_print_double   as 7, for the 64 bits of a double
+//    11  part_escape         input: a text; expected: the text that comes of it
+//    12  part_unescape       as 11
+//
+// 3 to 6 lend nothing: their room is 0 and is not looked at. They answer number 0 where the text is a number, else 1, and
+// length 0.
+// 7 to 12 answer number 0 and the whole text's length. In a smaller room the expected output is the text's front.
 //
 // A case agrees where the four numbers are the answer's, the lent space opens with the expected output, and behind it
 // every byte is still 0xA5 (number 0), or every lent byte is 0 (a refusal).
-// A case is broken where the input ends within it, its operation is none of these, its words are cut, or it is too large:
+//
+// A case is broken where standard input ends within it, its operation is none of these, its input is not of the
+// operation's form (words that are cut, a number that is not 8 bytes or, for 8, not below 2^32), or it is too large:
 // a sheet over 16,384 bytes, an input or expected output over 65,536 bytes, a room over 8,192 words or 65,536 bytes, or
 // a case behind the first 1,000,000.
 mod case;

@@ -4,6 +4,10 @@ use crate::case::Head;
 use crate::lent::bytes_of;
 use crate::lent::words_of;
 use desk_host::DeskAnswer;
+use desk_parts::PartNumber;
+use numbers::io::put_le;
+use numbers::io::read_le;
+use slices::write::clear;
 
 // The answer, or that there is no such operation or the input is not of its form.
 pub enum Performed {
@@ -11,11 +15,15 @@ pub enum Performed {
     Broken,
 }
 
-// How many bytes an operation lends for a room.
+// How many bytes an operation lends for a room. One that reads a number has the 8 bytes of its value there.
 pub fn lent_size(operation: u64, room: usize) -> usize
     requires { ⌜ room ≤ 65536 ⌝ }
 {
-    if operation == 1 { 8 * room } else { room }
+    match operation {
+        1 => 8 * room,
+        3..=6 => 8,
+        _ => room,
+    }
 }
 
 // Has the desk do an operation on lent bytes. `words` is space for the operation's words.
@@ -29,8 +37,60 @@ pub fn perform(
     match operation {
         1 => decode(sheet, input, lent, words),
         2 => encode(sheet, input, lent, words),
+        3 => value_read(desk_parts::part_parse_u32(input), lent),
+        4 => value_read(desk_parts::part_parse_hex(input), lent),
+        5 => value_read(desk_parts::part_parse_i32(input), lent),
+        6 => value_read(desk_parts::part_parse_double(input), lent),
+        11 => written(desk_parts::part_escape(input, lent)),
+        12 => written(desk_parts::part_unescape(input, lent)),
+        _ => print(operation, input, lent),
+    }
+}
+
+// The operations that print the number whose 8 bytes are the input.
+fn print(operation: u64, input: &[u8], lent: &mut [u8]) -> Performed {
+    if input.len() != 8 {
+        return Performed::Broken;
+    }
+    let n = read_le(input, 0, 8);
+    match operation {
+        7 => written(desk_parts::part_print_decimal(n, lent)),
+        8 => print_signed(n, lent),
+        9 => written(desk_parts::part_print_hex4(n, lent)),
+        10 => written(desk_parts::part_print_double(n, lent)),
         _ => Performed::Broken,
     }
+}
+
+fn print_signed(n: u64, lent: &mut [u8]) -> Performed {
+    if 0xffff_ffff < n {
+        return Performed::Broken;
+    }
+    written(desk_parts::part_print_signed(n as u32, lent))
+}
+
+// A text of n bytes was written.
+fn written(n: usize) -> Performed {
+    answered(0, n as u64)
+}
+
+// A number was read, and its value goes to the lent bytes, or the text is none.
+fn value_read(n: PartNumber, lent: &mut [u8]) -> Performed {
+    if n.found == 1 {
+        put_le(lent, 0, 8, n.value);
+        return answered(0, 0);
+    }
+    clear(lent);
+    answered(1, 0)
+}
+
+fn answered(number: u64, length: u64) -> Performed {
+    Performed::Answered(DeskAnswer {
+        number,
+        place: 0,
+        operand: 0,
+        length,
+    })
 }
 
 // Whether an answer is the recorded one.

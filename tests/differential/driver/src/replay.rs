@@ -6,6 +6,7 @@ use crate::random::Random;
 use crate::rust;
 use crate::sheets::{self, Sheet};
 use crate::tally::BYTE;
+use crate::texts;
 use hbc_decomp::util::escape_js_string;
 
 struct File {
@@ -142,6 +143,13 @@ fn escapes(file: &mut File, r: &mut Random) {
     for _ in 0..300 {
         let s: String = (0..r.below(10)).map(|_| *r.pick(&some)).collect();
         file.printed(11, s.as_bytes(), &escape_js_string(&s));
+    }
+    let sheet = texts::one_string();
+    for _ in 0..200 {
+        let s = texts::escaped_text(r);
+        let (told, same) = texts::unescaped(&sheet, &s);
+        assert!(same, "the Rust reads another text from {s:?}");
+        file.printed(12, s.as_bytes(), &told);
     }
 }
 

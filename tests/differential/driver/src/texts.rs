@@ -59,24 +59,30 @@ fn id_of(list: hbc_decomp::error::Result<Vec<hbc_decomp::file::Instruction>>) ->
     }
 }
 
-fn one_string() -> Sheet {
+pub fn one_string() -> Sheet {
     Sheet::new(vec![Op { code: 0, name: "S".to_string(), jump: false, types: vec![7] }])
 }
 
-/// The Rust unquotes what the desk read: the text is found exactly if the two agree.
+/// What the desk reads between two quotes, and whether the Rust reads the same: its text is found exactly then.
+pub fn unescaped(sheet: &Sheet, s: &str) -> (String, bool) {
+    let mut out = vec![BYTE; s.len()];
+    let n = desk::unescape(s.as_bytes(), &mut out);
+    let got = String::from_utf8_lossy(&out[..n]).into_owned();
+    let table = HashMap::from([(got.clone(), 7)]);
+    let told = parse_hasm_function(&format!("S \"{s}\""), &sheet.format, &table);
+    (got, id_of(told) == Some(7))
+}
+
+pub fn escaped_text(r: &mut Random) -> String {
+    let some = ["a", "b", "\\", "\\\\", "\\n", "\\t", "\\r", "\\\"", "\\0", "\\u00E9", "/", "//", ";", ":", "L1", "\t", "é"];
+    (0..r.below(8)).map(|_| *r.pick(&some)).collect()
+}
+
 fn unescapes(t: &mut Tally, r: &mut Random, count: u64) {
     let sheet = one_string();
-    let some = ["a", "b", "\\", "\\\\", "\\n", "\\t", "\\r", "\\\"", "\\0", "\\u00E9", "/", "//", ";", ":", "L1", "\t", "é"];
-    let mut table = HashMap::new();
     for _ in 0..count {
-        let s: String = (0..r.below(8)).map(|_| *r.pick(&some)).collect();
-        let mut out = vec![BYTE; s.len()];
-        let n = desk::unescape(s.as_bytes(), &mut out);
-        let got = String::from_utf8_lossy(&out[..n]).into_owned();
-        table.clear();
-        table.insert(got.clone(), 7);
-        let told = parse_hasm_function(&format!("S \"{s}\""), &sheet.format, &table);
-        let ok = id_of(told) == Some(7);
+        let s = escaped_text(r);
+        let (got, ok) = unescaped(&sheet, &s);
         t.count(ok, || format!("unescape of {s:?}\n  rust: another text\n  desk: {got:?}"));
     }
 }

@@ -1,0 +1,7 @@
+pub mod Edition
+pub mod Operand
+pub mod Line
+pub mod Labels
+pub mod Listing
+pub mod Module
+pub mod Operation

@@ -23,8 +23,8 @@ use Rattle.spec_body.specs.Function.{inArea}
 use Rattle.spec_body.specs.Operation.{Outcome}
 use Rattle.spec_body.specs.Operation.Outcome.{result, refusedWith}
 use Rattle.spec_listing.specs.Edition.{Options, nameOf, isJump}
-use Rattle.spec_listing.specs.Operand.{distanceOf, targetOf, stringText, operandText}
-use Rattle.spec_listing.specs.Line.{operandTexts, offsetText, instructionText}
+use Rattle.spec_listing.specs.Operand.{distanceOf, targetOf, stringText, operandText, operandTexts}
+use Rattle.spec_listing.specs.Line.{offsetText, instructionText}
 use Rattle.spec_listing.specs.Labels.{endsFlow, targets, labelsOf, labelOffsets, among, different}
 use Rattle.spec_listing.specs.Listing.{labelLine, labelText, instructionLine, linesOf, longLine, entriesFor, unlessLong, listDecoded, append}
 use Rattle.spec_listing.specs.Module.{Area, functionName, banner, listFunctionIn, listFunctionsFrom}

@@ -28,7 +28,7 @@ unfoldable pub labelText : Options → List ℕ → List ℕ → ℕ → List �
 labelText o labels indent at = pick (both (o .showLabels) (among at labels)) (labelLine indent at) []
 
 unfoldable pub instructionLine : Options → Edition → List ℕ → List ℕ → List ℕ
-instructionLine o e indent r = indent ++ instructionText o e r
+instructionLine o e indent r = indent ++ instructionText (o .showOffsets) (o .resolveStrings) e r
 
 -- all lines, where `labels` are the offsets that have a label
 unfoldable pub linesOf : Options → Edition → List ℕ → List ℕ → List (List ℕ) → List ℕ

@@ -1,0 +1,82 @@
+-- The lines of a job (document 01, 'Around the core'). Assumes nothing.
+use mathlib.Core.Bool.{Bool, true, false}
+use mathlib.Core.List.{List, []}
+use Prim.Native.Nat.{ℕ, _+_, _-_}
+use lib.Dec.{eqb}
+use lib.ListN.{length}
+use Rattle.lists.specs.Choice.{pick}
+use Rattle.lists.specs.Text.{text}
+use Rattle.spec_sheet.specs.Line.{Op}
+use Rattle.spec_sheet.specs.Scan.{after, literalAt}
+use Rattle.spec_sheet.specs.Sheet.{SheetRead, sheetAt}
+use Rattle.spec_sheet.specs.Sheet.SheetRead.{sheet, malformed}
+use Rattle.spec_job.specs.Hex.{HexRead}
+use Rattle.spec_job.specs.Hex.HexRead.{hex, noHex}
+use Rattle.spec_job.specs.Table.{TableRead, onHex, keyedHexAt, tableAt}
+use Rattle.spec_job.specs.Table.TableRead.{table, faultAfter}
+
+-- an edition as it stands in a job: the sheet's opcodes, whose names are places of the job, and its string table
+pub record Edition : Type 0 where
+  pub opcodes : List Op
+  pub bytes : List ℕ
+  pub ends : List ℕ
+
+-- an edition, the place behind it and the number of the line there; or the malformed line, "numbered in the job"
+pub data EditionRead : Type 0 where
+  edition : Edition → ℕ → ℕ → EditionRead
+  badEdition : ℕ → EditionRead
+
+unfoldable pub withTable : List Op → ℕ → TableRead → EditionRead
+withTable os line (table bytes ends at) =
+    edition (record { opcodes = os; bytes = bytes; ends = ends }) at (line + 1 + length ends)
+withTable os line (faultAfter k) = badEdition (line + k)
+
+-- a sheet whose first line is the job's line `line`, then strings
+unfoldable pub withSheet : List ℕ → ℕ → SheetRead → EditionRead
+withSheet s line (sheet sh at) = withTable (sh .opcodes) (line + 2 + length (sh .opcodes)) (tableAt s at)
+withSheet s line (malformed k) = badEdition (line + k - 1)
+
+abbrev pub editionAt : List ℕ → ℕ → ℕ → EditionRead
+editionAt s at line = withSheet s line (sheetAt s at)
+
+-- what a job asks for: its edition and body; its edition and where its text starts; two editions and its body
+pub data JobRead : Type 0 where
+  listJob : Edition → List ℕ → JobRead
+  assembleJob : Edition → ℕ → JobRead
+  carryJob : Edition → Edition → List ℕ → JobRead
+  badLine : ℕ → JobRead
+
+unfoldable pub onEdition : EditionRead → (Edition → ℕ → ℕ → JobRead) → JobRead
+onEdition (edition e at line) then = then e at line
+onEdition (badEdition line) then = badLine line
+
+-- `body=` and hex, and nothing behind that line: "a byte behind `body`'s line, is 1"
+unfoldable pub withBody : List ℕ → ℕ → ℕ → (List ℕ → JobRead) → JobRead
+withBody s at line then =
+    onHex (keyedHexAt (text "body=") s at) (badLine line) λ bs b.
+    pick (eqb b (length s)) (then bs) (badLine (line + 1))
+
+unfoldable pub readList : List ℕ → ℕ → JobRead
+readList s at = onEdition (editionAt s at 2) λ e b line. withBody s b line (listJob e)
+
+-- "`job=assemble` has `text=` instead of `body`, the text starting on the next line"
+unfoldable pub readAssemble : List ℕ → ℕ → JobRead
+readAssemble s at = onEdition (editionAt s at 2) λ e b line.
+    after (literalAt (text "text=\n") s b) (badLine line) λ _ c.
+    assembleJob e c
+
+-- "`job=carry` puts the second sheet and strings before `body`"
+unfoldable pub readCarry : List ℕ → ℕ → JobRead
+readCarry s at = onEdition (editionAt s at 2) λ e b line.
+    onEdition (editionAt s b line) λ f c next.
+    withBody s c next (carryJob e f)
+
+-- a job's first line says which it is; a word that this desk does not have yet is malformed
+unfoldable pub readWord : Bool → List ℕ → List ℕ → (List ℕ → ℕ → JobRead) → JobRead → JobRead
+readWord has word s read other = pick has (after (literalAt word s 0) other λ _ at. read s at) other
+
+unfoldable pub readJob : List ℕ → JobRead
+readJob s =
+    readWord true (text "job=list\n") s readList
+    (readWord false (text "job=assemble\n") s readAssemble
+    (readWord false (text "job=carry\n") s readCarry (badLine 1)))

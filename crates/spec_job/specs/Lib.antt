@@ -1,0 +1,4 @@
+pub mod Hex
+pub mod Table
+pub mod Job
+pub mod Printed

@@ -1,0 +1,63 @@
+-- What the desk program prints for a job (document 01, 'Around the core'). Assumes nothing.
+use mathlib.Core.Bool.{true}
+use mathlib.Core.List.{List, [], _++_}
+use Prim.Native.Nat.{ℕ}
+use lib.Dec.{ltb}
+use lib.ListN.{length}
+use Rattle.lists.specs.Choice.{pick}
+use Rattle.lists.specs.Text.{text}
+use Rattle.spec_numbers.specs.Print.{decimal}
+use Rattle.spec_sheet.specs.Sheet.{typeRows, largest}
+use Rattle.spec_body.specs.Decode.{decodeBody}
+use Rattle.spec_body.specs.Operation.{Outcome}
+use Rattle.spec_body.specs.Operation.Outcome.{result, refusedWith}
+use Rattle.spec_listing.specs.Edition.{Options}
+use Rattle.spec_listing.specs.Listing.{listDecoded}
+use Rattle.spec_listing.specs.Operation.{listOutcome, underTable, editionOf}
+use Rattle.spec_job.specs.Job.{Edition, JobRead, readJob}
+use Rattle.spec_job.specs.Job.JobRead.{listJob, assembleJob, carryJob, badLine}
+
+-- "a job, at most 65,536 bytes"
+abbrev pub jobLimit : ℕ
+jobLimit = 65536
+
+-- "The program lends 65,536 output bytes and 4,096 label entries"
+abbrev pub outputLent : ℕ
+outputLent = 65536
+
+abbrev pub entriesLent : ℕ
+entriesLent = 4096
+
+-- "default shows offsets, labels and texts"
+abbrev pub defaultOptions : Options
+defaultOptions = record { showOffsets = true; showLabels = true; resolveStrings = true }
+
+-- the listing that a job asks for: 17, then as listing a body
+unfoldable pub listEdition : List ℕ → Edition → List ℕ → Outcome
+listEdition s e body =
+    let under = editionOf s (e .opcodes) (e .bytes) (e .ends) in
+    underTable (e .bytes) (e .ends) (listOutcome entriesLent (listDecoded defaultOptions under [] (decodeBody (typeRows (e .opcodes)) (largest (e .opcodes)) body)))
+
+-- assembling and carrying are not read yet
+unfoldable pub jobRun : List ℕ → JobRead → Outcome
+jobRun s (listJob e body) = listEdition s e body
+jobRun s (assembleJob e at) = refusedWith 1 1 0
+jobRun s (carryJob e f body) = refusedWith 1 1 0
+jobRun s (badLine line) = refusedWith 1 line 0
+
+-- "After 18 of the job, the job's lines are checked for 1, numbered in the job, before 17"
+unfoldable pub jobOutcome : List ℕ → Outcome
+jobOutcome s = pick (ltb jobLimit (length s)) (refusedWith 18 0 0) (jobRun s (readJob s))
+
+-- "A refusal prints `refused=N place=P operand=Q`"; "each printed line ends in LF"
+unfoldable pub refusedText : ℕ → ℕ → ℕ → List ℕ
+refusedText number place operand =
+    text "refused=" ++ decimal number ++ text " place=" ++ decimal place ++ text " operand=" ++ decimal operand ++ text "\n"
+
+-- the listing itself, "past either it prints 19"
+unfoldable pub printedOf : Outcome → List ℕ
+printedOf (result t n) = pick (ltb outputLent (length t)) (refusedText 19 0 0) t
+printedOf (refusedWith number place operand) = refusedText number place operand
+
+unfoldable pub printed : List ℕ → List ℕ
+printed s = printedOf (jobOutcome s)

@@ -1,1 +1,2 @@
+pub mod LineShape
 pub mod ListingTrials

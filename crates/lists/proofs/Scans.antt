@@ -10,7 +10,7 @@ use lib.Dec.{eqb, eqb·suc-zero}
 use lib.ListN.{length, drop, getD, drop-of-length-le}
 use lib.Seq.{drop-cons}
 use Rattle.lists.specs.Scan.{run, all, same, opens}
-use Rattle.lists.specs.Choice.{both}
+use Rattle.lists.specs.Choice.{pick, both}
 use Rattle.lists.proofs.Tests.{both-left, both-right, both-yes, both-no-right, true-not-false}
 
 module _ (p : ℕ → Bool) where
@@ -170,3 +170,20 @@ all-at p [] d e f zero = f
 all-at p [] d e f (suc i) = f
 all-at p (a ∷ s) d e f zero = both-left (p a) (all p s) e
 all-at p (a ∷ s) d e f (suc i) = all-at p s d (both-right (p a) (all p s) e) f i
+
+-- one element more
+pub all-cons : (p : ℕ → Bool) (b : ℕ) (s : List ℕ) → p b ≡ true → all p s ≡ true → all p (b ∷ s) ≡ true
+unfolding all
+all-cons p b s e f = both-yes (p b) (all p s) e f
+
+-- what passes one test passes another that asks no more
+pub all-weaken : (p q : ℕ → Bool) → ((b : ℕ) → p b ≡ true → q b ≡ true) → (s : List ℕ) → all p s ≡ true → all q s ≡ true
+unfolding all
+all-weaken p q f [] e = refl
+all-weaken p q f (b ∷ s) e =
+    both-yes (q b) (all q s) (f b (both-left (p b) (all p s) e)) (all-weaken p q f s (both-right (p b) (all p s) e))
+
+-- one of two lists that both pass
+pub all-pick : (p : ℕ → Bool) (t : Bool) (a b : List ℕ) → all p a ≡ true → all p b ≡ true → all p (pick t a b) ≡ true
+all-pick p true a b e f = e
+all-pick p false a b e f = f

@@ -1,2 +1,5 @@
 pub mod LineShape
+pub mod OperandShape
+pub mod PieceBytes
+pub mod LineNames
 pub mod ListingTrials

@@ -1,0 +1,81 @@
+-- The name on a listed line: one of the sheet, which is found again, or "<invalid>". Assumes nothing.
+use mathlib.Core.Path.{_≡_, refl}
+use mathlib.Core.Bool.{true}
+use mathlib.Core.List.{List, []}
+use Prim.Native.Nat.{ℕ, _<_}
+use native.Mathlib.Omega.{arith}
+use lib.ListN.{take, getD}
+use borrow.Author.Tests.{eq-eqb, ne-eqb, eqb-true}
+use Rattle.lists.specs.Scan.{all}
+use Rattle.lists.specs.Text.{text}
+use Rattle.lists.specs.Found.Found.{found, missing}
+use Rattle.lists.proofs.Tests.{by-eqb, within-least, within-most}
+use Rattle.lists.proofs.Scans.{all-weaken}
+use Rattle.spec_sheet.specs.Scan.{isUpper, isLower, isDigit, isNameByte}
+use Rattle.spec_sheet.specs.Sheet.{Sheet, sheetAt, infoRows, findName}
+use Rattle.spec_sheet.specs.Sheet.SheetRead.{sheet}
+use Rattle.spec_sheet.proofs.NameTextLaws.{NameText, name-text, either-cases, invalid-no-name}
+use Rattle.spec_sheet.proofs.OwnNameLaws.{rowName, sheet-own-name, sheet-no-name}
+use Rattle.spec_sheet.proofs.RowLaws.{sheet-name}
+use Rattle.spec_listing.specs.Edition.{Edition, nameOf}
+use Rattle.spec_listing.specs.Operation.{editionOf}
+use Rattle.spec_listing.proofs.PieceBytes.{tokenByte, Token, token-digit, token-letter}
+
+-- a name of a sheet, or what stands for a gap
+pub data ListedName (name : List ℕ) : Type 0 where
+  named : NameText name → ListedName name
+  gap : name ≡ text "<invalid>" → ListedName name
+
+-- the name by an opcode's row, whose last number is the length
+module _ (e : Edition) (k : ℕ) where
+  -- of a gap
+  pub gap-name : getD (getD (e .infos) k []) 3 0 ≡ 0 → nameOf e k ≡ text "<invalid>"
+  unfolding nameOf
+  gap-name z = rw (eq-eqb _ _ z)
+
+  -- of an opcode of the sheet
+  pub row-name : 0 < getD (getD (e .infos) k []) 3 0 → nameOf e k ≡ rowName (e .sheet) (getD (e .infos) k [])
+  unfolding nameOf
+  row-name h = rw (ne-eqb (getD (getD (e .infos) k []) 3 0) 0 (λ z. omega arith))
+
+-- a letter, digit or underscore is a byte of a token
+name-byte : (b : ℕ) → isNameByte b ≡ true → tokenByte b ≡ true
+unfolding isNameByte
+name-byte b e =
+    either-cases (isUpper b) _ e (λ u. token-letter b (within-least 65 90 b u) (omega (arith, within-most 65 90 b u)))
+    (λ f. either-cases (isLower b) _ f (λ u. token-letter b (omega (arith, within-least 97 122 b u)) (within-most 97 122 b u))
+    (λ g. either-cases (isDigit b) _ g (λ u. token-digit b (within-least 48 57 b u) (within-most 48 57 b u))
+    (λ u. let q = eqb-true b 95 u in token-letter b (omega arith) (omega arith))))
+
+invalid-token : Token (text "<invalid>")
+unfolding text all tokenByte
+invalid-token = record { bytes = refl; some = omega arith }
+
+-- a name is a token; NameText says that it opens with an upper-case letter
+pub name-token : (name : List ℕ) → ListedName name → Token name
+name-token name (named n) = record { bytes = all-weaken isNameByte tokenByte name-byte name (n .bytes); some = n .least }
+name-token name (gap e) = rw e invalid-token
+
+-- under a sheet that was read, with any string table
+module _ (s : List ℕ) (at : ℕ) (sh : Sheet) (c : ℕ) (e : sheetAt s at ≡ sheet sh c) (bytes ends : List ℕ) (k : ℕ) where
+  abbrev size : ℕ
+  size = getD (getD (infoRows (sh .opcodes)) k []) 3 0
+
+  -- the name of an opcode of the sheet
+  pub sheet-name-text : 0 < size → NameText (nameOf (editionOf s (sh .opcodes) bytes ends) k)
+  sheet-name-text h = rw (row-name (editionOf s (sh .opcodes) bytes ends) k h) (name-text s _ _ (sheet-name s at sh c e k h))
+
+  -- every opcode's
+  pub listed-name : ListedName (nameOf (editionOf s (sh .opcodes) bytes ends) k)
+  listed-name =
+      by-eqb size 0
+      (λ z. gap (gap-name (editionOf s (sh .opcodes) bytes ends) k z))
+      (λ z. named (sheet-name-text (omega (arith, z))))
+
+  -- it is found again, at its opcode
+  pub name-found : (n : ℕ) → k < n → 0 < size → findName s (nameOf (editionOf s (sh .opcodes) bytes ends) k) 0 (take n (infoRows (sh .opcodes))) ≡ found k
+  name-found n l h = rw (row-name (editionOf s (sh .opcodes) bytes ends) k h) (sheet-own-name s at sh c e n k l h)
+
+  -- what stands for a gap is not
+  pub gap-missing : (n : ℕ) → size ≡ 0 → findName s (nameOf (editionOf s (sh .opcodes) bytes ends) k) 0 (take n (infoRows (sh .opcodes))) ≡ missing
+  gap-missing n z = rw (gap-name (editionOf s (sh .opcodes) bytes ends) k z) (sheet-no-name s at sh c e (text "<invalid>") n invalid-no-name)

@@ -2,4 +2,5 @@ pub mod LineShape
 pub mod OperandShape
 pub mod PieceBytes
 pub mod LineNames
+pub mod LineBytes
 pub mod ListingTrials

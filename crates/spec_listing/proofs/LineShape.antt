@@ -1,7 +1,7 @@
 -- What a listed line consists of: offset, name, and one piece an operand, joined by commas. Assumes nothing.
 use mathlib.Core.Path.{_≡_, refl, ap, _∙_}
 use mathlib.Core.Bool.{Bool}
-use mathlib.Core.List.{List, [], _∷_, _++_}
+use mathlib.Core.List.{List, [], _∷_, _++_, append-assoc}
 use Prim.Native.Nat.{ℕ, zero, suc, _+_, _*_, _<_}
 use native.Mathlib.Omega.{arith}
 use lib.Dec.{eqb}
@@ -11,12 +11,14 @@ use borrow.Author.Tests.{ne-eqb, eq-eqb}
 use Rattle.lists.specs.Choice.{pick}
 use Rattle.lists.specs.Text.{text}
 use Rattle.lists.proofs.Tests.{by-eqb}
+use Rattle.spec_numbers.specs.Print.{decimal}
 use Rattle.spec_sheet.proofs.OpLaws.{TypeCodes}
 use Rattle.spec_sheet.proofs.OpLaws.TypeCodes.{none, one}
 use Rattle.spec_body.proofs.RowLaws.{GoodRow}
 use Rattle.spec_listing.specs.Edition.{Edition, nameOf}
 use Rattle.spec_listing.specs.Operand.{operandText, operandTexts}
 use Rattle.spec_listing.specs.Line.{offsetOf, opcodeOf, pairsOf, offsetText, instructionText}
+use Rattle.spec_listing.specs.Listing.{labelLine}
 
 -- pieces, each behind a comma and a space
 unfoldable pub behindCommas : List (List ℕ) → List ℕ
@@ -118,3 +120,12 @@ module _ (texts : Bool) (bytes ends : List ℕ) (at : ℕ) where
 pub instruction-text : (offsets texts : Bool) (e : Edition) (r : List ℕ) → instructionText offsets texts e r ≡ offsetText offsets (offsetOf r) ++ nameOf e (opcodeOf r) ++ behindName (piecesOf texts e r)
 unfolding instructionText
 instruction-text offsets texts e r = rw (operand-texts texts (e .bytes) (e .ends) (offsetOf r) (getD (e .types) (opcodeOf r) []) (pairsOf r))
+
+-- a label's line without its line end: `L5:`
+abbrev pub labelHead : ℕ → List ℕ
+labelHead at = 76 ∷ decimal at ++ (58 ∷ [])
+
+-- behind what stands in front of each line
+pub label-line : (indent : List ℕ) (at : ℕ) → labelLine indent at ≡ indent ++ labelHead at ++ (10 ∷ [])
+unfolding labelLine text
+label-line indent at = simp append-assoc

@@ -1,0 +1,56 @@
+-- A listed operand is read back, one law a family. Assumes nothing.
+use mathlib.Core.Path.{_≡_, refl}
+use mathlib.Core.Bool.{Bool, true, false}
+use mathlib.Core.List.{List}
+use Prim.Native.Nat.{ℕ, _^_, _<_}
+use native.Mathlib.Omega.{arith}
+use lib.Dec.{ltb}
+use lib.ListN.{length, getD, drop}
+use Rattle.lists.specs.Choice.{both}
+use Rattle.spec_numbers.specs.Parse.{parseU32, parseI32}
+use Rattle.spec_numbers.specs.Parse.Parsed.{is}
+use Rattle.spec_numbers.specs.Double.{readDouble}
+use Rattle.spec_numbers.proofs.ReadBackLaws.{parse-decimal, parse-signed}
+use Rattle.spec_numbers.proofs.DoubleLaws.{read-printed}
+use Rattle.spec_sheet.specs.Types.{familyOf}
+use Rattle.spec_strings.specs.Table.{textOf}
+use Rattle.spec_strings.specs.Plain.{plain}
+use Rattle.spec_listing.specs.Operand.{targetOf, operandText}
+use Rattle.spec_listing.proofs.OperandShape.{register-text, number-text, shown-text, id-text, target-text, signed-text, double-text}
+use Rattle.spec_listing.proofs.PieceBytes.{QuotedText, plain-quoted}
+
+-- a token of one letter and a number
+pub record Lettered (letter n : ℕ) (piece : List ℕ) : Type 0 where
+  pub letter-is : getD piece 0 0 ≡ letter
+  pub number-is : parseU32 (drop 1 piece) ≡ is n
+
+module _ (texts : Bool) (bytes ends : List ℕ) (at code bits : ℕ) where
+  -- Reg8 and Reg32
+  pub operand-register : familyOf code ≡ 1 → bits < 2 ^ 32 → Lettered 114 bits (operandText texts bytes ends at code bits)
+  operand-register f h = rw (register-text texts bytes ends at code bits f) record { letter-is = refl; number-is = parse-decimal bits h }
+
+  -- UInt8, UInt16 and UInt32
+  pub operand-number : familyOf code ≡ 2 → bits < 2 ^ 32 → parseU32 (operandText texts bytes ends at code bits) ≡ is bits
+  operand-number f h = rw (number-text texts bytes ends at code bits f) (parse-decimal bits h)
+
+  -- UInt8S, UInt16S and UInt32S by number
+  pub operand-id : familyOf code ≡ 3 → both texts (ltb bits (length ends)) ≡ false → bits < 2 ^ 32 → parseU32 (operandText texts bytes ends at code bits) ≡ is bits
+  operand-id f n h = rw (id-text texts bytes ends at code bits f n) (parse-decimal bits h)
+
+  -- the same by a plain text: what stands between the quotes says it
+  pub operand-text : familyOf code ≡ 3 → both texts (ltb bits (length ends)) ≡ true → plain (textOf bytes ends bits) ≡ true
+      → QuotedText (textOf bytes ends bits) (operandText texts bytes ends at code bits)
+  operand-text f n h = rw (shown-text texts bytes ends at code bits f n) (plain-quoted (textOf bytes ends bits) h)
+
+  -- Addr8 and Addr32, whose target's sign bit is clear
+  pub operand-address : familyOf code ≡ 4 → targetOf at code bits < 2 ^ 31 → Lettered 76 (targetOf at code bits) (operandText texts bytes ends at code bits)
+  operand-address f h =
+      rw (target-text texts bytes ends at code bits f h) record { letter-is = refl; number-is = parse-decimal (targetOf at code bits) (omega arith) }
+
+  -- Imm32
+  pub operand-signed : familyOf code ≡ 5 → bits < 2 ^ 32 → parseI32 (operandText texts bytes ends at code bits) ≡ is bits
+  operand-signed f h = rw (signed-text texts bytes ends at code bits f) (parse-signed bits h)
+
+  -- Double
+  pub operand-double : familyOf code ≡ 6 → bits < 2 ^ 64 → readDouble (operandText texts bytes ends at code bits) ≡ is bits
+  operand-double f h = rw (double-text texts bytes ends at code bits f) (read-printed bits h)

@@ -1,5 +1,6 @@
 pub mod LineShape
 pub mod OperandShape
+pub mod TokenBytes
 pub mod PieceBytes
 pub mod LineNames
 pub mod LineBytes

@@ -24,7 +24,8 @@ use Rattle.spec_listing.specs.Labels.{among}
 use Rattle.spec_listing.specs.Listing.{labelLine, labelText, instructionLine, linesOf}
 use Rattle.spec_listing.proofs.LineShape.{labelHead, label-line}
 use Rattle.spec_listing.proofs.OperandShape.{string-text, by-text}
-use Rattle.spec_listing.proofs.PieceBytes.{tokenByte, Token, token-least, token-most, decimal-token, operand-token}
+use Rattle.spec_listing.proofs.TokenBytes.{tokenByte, Token, token-least, token-most, decimal-token}
+use Rattle.spec_listing.proofs.PieceBytes.{operand-token}
 use Rattle.spec_listing.proofs.LineNames.{ListedName, name-token}
 
 -- a token

@@ -19,7 +19,7 @@ use Rattle.spec_sheet.proofs.OwnNameLaws.{rowName, sheet-own-name, sheet-no-nam
 use Rattle.spec_sheet.proofs.RowLaws.{sheet-name}
 use Rattle.spec_listing.specs.Edition.{Edition, nameOf}
 use Rattle.spec_listing.specs.Operation.{editionOf}
-use Rattle.spec_listing.proofs.PieceBytes.{tokenByte, Token, token-digit, token-letter}
+use Rattle.spec_listing.proofs.TokenBytes.{tokenByte, Token, token-digit, token-letter}
 
 -- a name of a sheet, or what stands for a gap
 pub data ListedName (name : List ℕ) : Type 0 where

@@ -1,21 +1,15 @@
--- The bytes of a line's pieces: no space, quote, comma, slash or colon stands outside a quoted text. Assumes nothing.
-use mathlib.Core.Path.{_≡_, refl}
-use mathlib.Core.Bool.{Bool, true, false, not}
+-- The pieces of a listed line: tokens, and quoted texts without a quote inside. Assumes nothing.
+use mathlib.Core.Path.{_≡_, refl, ap, _∙_}
+use mathlib.Core.Bool.{Bool, true, false}
 use mathlib.Core.List.{List, [], _∷_, _++_}
-use Prim.Native.Nat.{ℕ, _≤_, _<_}
+use Prim.Native.Nat.{ℕ, _+_, _-_}
 use native.Mathlib.Omega.{arith}
-use lib.Dec.{eqb, ltb}
-use lib.IntN.{ℤ, pos, negsuc}
-use lib.ListN.{length}
-use borrow.Author.Tests.{ne-eqb}
-use Rattle.lists.specs.Choice.{both, within}
-use Rattle.lists.specs.Scan.{all}
-use Rattle.lists.proofs.Tests.{both-left, both-right, not-true, within-yes, within-least, within-most}
-use Rattle.lists.proofs.Scans.{all-cons}
-use Rattle.spec_numbers.specs.Print.{decimal, signedDecimal}
-use Rattle.spec_numbers.specs.Double.{printDouble}
-use Rattle.spec_numbers.proofs.PrintLaws.{decimal-every, decimal-some, signed-every}
-use Rattle.spec_numbers.proofs.DoubleTextLaws.{double-every, double-length}
+use lib.Dec.{ltb}
+use lib.ListN.{length, getD, length-append}
+use lib.Seq.{take-length, take-append-le, getD-append-add}
+use Rattle.lists.specs.Choice.{both}
+use Rattle.lists.specs.Scan.{all, part}
+use Rattle.spec_numbers.specs.Print.{decimal}
 use Rattle.spec_sheet.specs.Types.{familyOf}
 use Rattle.spec_strings.specs.Table.{textOf}
 use Rattle.spec_strings.specs.Escape.{escapeText, quoted, unescape}
@@ -23,82 +17,7 @@ use Rattle.spec_strings.specs.Plain.{plain}
 use Rattle.spec_strings.proofs.EscapeLaws.{printed, lastOf, plain-printed, plain-last, unescape-escape}
 use Rattle.spec_listing.specs.Operand.{operandText}
 use Rattle.spec_listing.proofs.OperandShape.{by-family, by-text}
-
--- a byte of a token outside quotes: 33 to 126, but no quote, comma, slash or colon
-unfoldable pub tokenByte : ℕ → Bool
-tokenByte b = both (within 33 126 b) (both (both (not (eqb b 34)) (not (eqb b 44))) (both (not (eqb b 47)) (not (eqb b 58))))
-
-pub token-byte : (b : ℕ) → 33 ≤ b → b ≤ 126 → (b ≡ 34 → ⊥) → (b ≡ 44 → ⊥) → (b ≡ 47 → ⊥) → (b ≡ 58 → ⊥) → tokenByte b ≡ true
-unfolding tokenByte
-token-byte b l h n34 n44 n47 n58 = rw (within-yes 33 126 b l h, ne-eqb b 34 n34, ne-eqb b 44 n44, ne-eqb b 47 n47, ne-eqb b 58 n58)
-
--- what such a byte is not
-module _ (b : ℕ) (e : tokenByte b ≡ true) where
-  in-range : within 33 126 b ≡ true
-  unfolding tokenByte
-  in-range = both-left (within 33 126 b) _ e
-
-  others : both (both (not (eqb b 34)) (not (eqb b 44))) (both (not (eqb b 47)) (not (eqb b 58))) ≡ true
-  unfolding tokenByte
-  others = both-right (within 33 126 b) _ e
-
-  -- so no tab, line end or space
-  pub token-least : 33 ≤ b
-  token-least = within-least 33 126 b in-range
-
-  pub token-most : b ≤ 126
-  token-most = within-most 33 126 b in-range
-
-  pub token-no-quote : eqb b 34 ≡ false
-  token-no-quote = not-true (eqb b 34) (both-left (not (eqb b 34)) _ (both-left (both (not (eqb b 34)) (not (eqb b 44))) _ others))
-
-  pub token-no-comma : eqb b 44 ≡ false
-  token-no-comma = not-true (eqb b 44) (both-right (not (eqb b 34)) _ (both-left (both (not (eqb b 34)) (not (eqb b 44))) _ others))
-
-  pub token-no-slash : eqb b 47 ≡ false
-  token-no-slash = not-true (eqb b 47) (both-left (not (eqb b 47)) _ (both-right (both (not (eqb b 34)) (not (eqb b 44))) _ others))
-
-  pub token-no-colon : eqb b 58 ≡ false
-  token-no-colon = not-true (eqb b 58) (both-right (not (eqb b 47)) _ (both-right (both (not (eqb b 34)) (not (eqb b 44))) _ others))
-
--- one such byte or more
-pub record Token (s : List ℕ) : Type 0 where
-  pub bytes : all tokenByte s ≡ true
-  pub some : 0 < length s
-
--- a digit, and what stands from `A` to `z`
-pub token-digit : (b : ℕ) → 48 ≤ b → b ≤ 57 → tokenByte b ≡ true
-token-digit b l h = token-byte b (omega arith) (omega arith) (λ z. omega arith) (λ z. omega arith) (λ z. omega arith) (λ z. omega arith)
-
-pub token-letter : (b : ℕ) → 65 ≤ b → b ≤ 122 → tokenByte b ≡ true
-token-letter b l h = token-byte b (omega arith) (omega arith) (λ z. omega arith) (λ z. omega arith) (λ z. omega arith) (λ z. omega arith)
-
--- a minus
-token-minus : tokenByte 45 ≡ true
-unfolding tokenByte
-token-minus = refl
-
--- a token with a letter in front
-pub lettered-token : (b : ℕ) (s : List ℕ) → 65 ≤ b → b ≤ 122 → Token s → Token (b ∷ s)
-lettered-token b s l h t = record { bytes = all-cons tokenByte b s (token-letter b l h) (t .bytes); some = omega arith }
-
--- numbers, signed numbers and doubles are tokens
-pub decimal-token : (n : ℕ) → Token (decimal n)
-decimal-token n = record { bytes = decimal-every tokenByte token-digit n; some = decimal-some n }
-
-signed-some : (z : ℤ) → 0 < length (signedDecimal z)
-unfolding signedDecimal
-signed-some (pos n) = decimal-some n
-signed-some (negsuc n) = omega arith
-
-pub signed-token : (z : ℤ) → Token (signedDecimal z)
-signed-token z = record { bytes = signed-every tokenByte token-digit token-minus z; some = signed-some z }
-
-pub double-token : (bits : ℕ) → Token (printDouble bits)
-double-token bits = record {
-  bytes = double-every tokenByte token-minus token-digit (λ b l h. token-letter b l (omega arith)) (λ b l h. token-letter b (omega arith) h) bits;
-  some = double-length bits .0;
-}
+use Rattle.spec_listing.proofs.TokenBytes.{Token, lettered-token, decimal-token, signed-token, double-token}
 
 -- a quoted piece that says the text t: no quote stands inside, and no backslash before the closing one
 pub record QuotedText (t piece : List ℕ) : Type 0 where
@@ -107,6 +26,24 @@ pub record QuotedText (t piece : List ℕ) : Type 0 where
   pub bytes : all printed inner ≡ true
   pub last : lastOf inner ≡ 92 → ⊥
   pub says : unescape false inner ≡ t
+
+-- its quotes, and what stands between them
+module _ (t piece : List ℕ) (q : QuotedText t piece) where
+  pub quoted-length : length piece ≡ 2 + length (q .inner)
+  quoted-length = rw (q .shape) (omega (arith, length-append (q .inner) (34 ∷ [])))
+
+  pub quoted-first : getD piece 0 0 ≡ 34
+  quoted-first = rw (q .shape)
+
+  pub quoted-last : lastOf piece ≡ 34
+  quoted-last =
+      let e : length piece - 1 ≡ length (34 ∷ q .inner) + 0 = omega (arith, quoted-length) in
+      ap (λ (i : ℕ). getD piece i 0) e ∙ ap (λ (s : List ℕ). getD s (length (34 ∷ q .inner) + 0) 0) (q .shape) ∙ getD-append-add (34 ∷ q .inner) (34 ∷ []) 0 0
+
+  pub quoted-inner : part piece 1 (length piece - 2) ≡ q .inner
+  quoted-inner =
+      let e : length piece - 2 ≡ length (q .inner) = omega (arith, quoted-length) in
+      rw (e, q .shape, take-append-le (length (q .inner)) (q .inner) (34 ∷ []) (omega arith)) (take-length (q .inner))
 
 -- a plain text is shown by one
 pub plain-quoted : (t : List ℕ) → plain t ≡ true → QuotedText t (quoted t)

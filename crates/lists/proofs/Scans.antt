@@ -11,7 +11,7 @@ use lib.ListN.{length, drop, getD, drop-of-length-le}
 use lib.Seq.{drop-cons}
 use Rattle.lists.specs.Scan.{run, all, same, opens}
 use Rattle.lists.specs.Choice.{pick, both}
-use Rattle.lists.proofs.Tests.{both-left, both-right, both-yes, both-no-right, true-not-false}
+use Rattle.lists.proofs.Tests.{both-left, both-right, both-yes, both-no-right, true-not-false, by-test}
 
 module _ (p : ℕ → Bool) where
   pub run-cons-go : (b : ℕ) (s : List ℕ) → p b ≡ true → run p (b ∷ s) ≡ suc (run p s)
@@ -187,3 +187,16 @@ all-weaken p q f (b ∷ s) e =
 pub all-pick : (p : ℕ → Bool) (t : Bool) (a b : List ℕ) → all p a ≡ true → all p b ≡ true → all p (pick t a b) ≡ true
 all-pick p true a b e f = e
 all-pick p false a b e f = f
+
+-- what opens a list passes the tests that all of the list passes
+pub opens-all : (q : ℕ → Bool) (p s : List ℕ) → all q s ≡ true → opens p s ≡ true → all q p ≡ true
+unfolding opens all
+opens-all q [] s e o = refl
+opens-all q (a ∷ p) [] e o = true-not-false false o refl
+opens-all q (a ∷ p) (b ∷ s) e o =
+    let h : a ≡ b = eqb-true a b (both-left (eqb a b) (opens p s) o) in
+    both-yes (q a) (all q p) (rw h (both-left (q b) (all q s) e)) (opens-all q p s (both-right (q b) (all q s) e) (both-right (eqb a b) (opens p s) o))
+
+-- so a list with an element that does not pass opens no such list
+pub opens-not : (q : ℕ → Bool) (p s : List ℕ) → all q s ≡ true → all q p ≡ false → opens p s ≡ false
+opens-not q p s e n = by-test (opens p s) (λ o. true-not-false (all q p) (opens-all q p s e o) n) (λ o. o)

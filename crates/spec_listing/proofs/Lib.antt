@@ -3,6 +3,7 @@ pub mod OperandShape
 pub mod TokenBytes
 pub mod PieceBytes
 pub mod LineNames
+pub mod LineOffset
 pub mod LineBytes
 pub mod OperandBits
 pub mod OperandReadBack

@@ -2,7 +2,6 @@
 use mathlib.Core.Path.{_≡_, refl}
 use mathlib.Core.Bool.{Bool, true}
 use mathlib.Core.List.{List, [], _∷_, _++_}
-use mathlib.Core.Logic._⊎_.{inr}
 use Prim.Native.Nat.{ℕ, _≤_}
 use native.Mathlib.Omega.{arith}
 use lib.Dec.{eqb}
@@ -12,9 +11,7 @@ use Rattle.lists.specs.Scan.{all}
 use Rattle.lists.specs.Text.{text}
 use Rattle.lists.proofs.Tests.{by-eqb, within-yes, within-least, within-most}
 use Rattle.lists.proofs.Scans.{all-append, all-pick, all-weaken}
-use Rattle.spec_numbers.specs.Print.{decimal, hexLower, hexLower4}
-use Rattle.spec_numbers.proofs.ParseLaws.{value-range}
-use Rattle.spec_numbers.proofs.ReadBackLaws.{hex-every}
+use Rattle.spec_numbers.specs.Print.{decimal, hexLower4}
 use Rattle.spec_sheet.specs.Types.{familyOf}
 use Rattle.spec_strings.proofs.EscapeByteLaws.{quoted-bytes}
 use Rattle.spec_listing.specs.Edition.{Edition, Options, nameOf}
@@ -26,6 +23,7 @@ use Rattle.spec_listing.proofs.LineShape.{labelHead, label-line}
 use Rattle.spec_listing.proofs.OperandShape.{string-text, by-text}
 use Rattle.spec_listing.proofs.TokenBytes.{tokenByte, Token, token-least, token-most, decimal-token}
 use Rattle.spec_listing.proofs.PieceBytes.{operand-token}
+use Rattle.spec_listing.proofs.LineOffset.{offset-token}
 use Rattle.spec_listing.proofs.LineNames.{ListedName, name-token}
 
 -- a token
@@ -34,12 +32,10 @@ token-bytes s t = all-weaken tokenByte (within 32 126) (λ b e. within-yes 32 12
 
 -- an offset
 pub offset-bytes : (offsets : Bool) (at : ℕ) → all (within 32 126) (offsetText offsets at) ≡ true
-unfolding offsetText hexLower4 hexLower all text
+unfolding offsetText all text
 offset-bytes offsets at =
     all-pick (within 32 126) offsets (hexLower4 at ++ text "  ") []
-    (all-append (within 32 126) (hexLower4 at) (text "  ")
-    (hex-every (within 32 126) (λ b h. let r = value-range b h in within-yes 32 126 b (omega (arith, r .0)) (omega (arith, r .1))) 97 4 16 at (inr refl))
-    refl)
+    (all-append (within 32 126) (hexLower4 at) (text "  ") (token-bytes (hexLower4 at) (offset-token at)) refl)
     refl
 
 module _ (texts : Bool) (bytes ends : List ℕ) (at : ℕ) where

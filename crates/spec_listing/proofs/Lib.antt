@@ -2,6 +2,7 @@ pub mod LineShape
 pub mod OperandShape
 pub mod TokenBytes
 pub mod PieceBytes
+pub mod LinePieces
 pub mod LineNames
 pub mod LineOffset
 pub mod LineBytes

@@ -1,0 +1,2 @@
+// One instruction as a line of a listing, through the counting writer.
+pub mod operand;

@@ -1,1 +1,3 @@
+pub mod TargetLaws
 pub mod OperandLaws
+pub mod OperandsLoop

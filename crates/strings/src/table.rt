@@ -31,7 +31,7 @@ fn wide(x: u32) -> usize
 }
 
 // The text from start to end, as far as there is any: the ends may fall or pass the bytes.
-fn entry_part(bytes: &[u8], start: usize, end: usize) -> &[u8]
+pub fn entry_part(bytes: &[u8], start: usize, end: usize) -> &[u8]
     ensures { λ r. ⌜ now r ≡ part (now (bytes .entry)) start (end - start) ⌝ }
 {
     if end < start {

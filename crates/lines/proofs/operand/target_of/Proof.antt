@@ -1,4 +1,4 @@
-use Rattle.lines.proofs.OperandLaws.{near-bits, near-target, far-bits, far-target}
+use Rattle.lines.proofs.TargetLaws.{near-bits, near-target, far-bits, far-target}
 use mathlib.Core.Path.{_∙_}
 use native.Mathlib.Omega.{arith}
 use borrow.Author.Needs.{needs}

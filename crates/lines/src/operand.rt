@@ -17,6 +17,7 @@ use numbers::print::put_signed;
 use numbers::signed::sign_extend8;
 use numbers::signed::wrapping_target;
 use slices::write::put_byte;
+use slices::write::put_bytes;
 use strings::table::Entry;
 
 // The 32 bits of an Addr's target. Code 9 is Addr8, whose distance is a signed byte.
@@ -93,8 +94,7 @@ fn put_separator(out: &mut [u8], k: usize, i: usize) -> usize
     if i == 0 {
         return put_byte(out, k, 32);
     }
-    let a = put_byte(out, k, 44);
-    put_byte(out, a, 32)
+    put_bytes(out, k, b", ")
 }
 
 // Writes the operands of the instruction at `at`, whose types are the row's.

@@ -1,6 +1,6 @@
 use borrow.Author.Tests.{eq-eqb, ne-eqb}
 use Rattle.lists.specs.Text.{text}
-use Rattle.lists.proofs.Writes.{_then_, same-piece}
+use Rattle.lists.proofs.Writes.{same-piece}
 use borrow.Author.Needs.{needs}
 use Rattle.lines.proofs.operand.put_separator.Statement.{statement}
 use Rattle.lines.proofs.operand.put_separator.Tie as tie
@@ -15,18 +15,18 @@ returns : tie.Need-returns
 unfolding text
 returns c = same-piece (rw (eq-eqb _ 0 (c .before .before .before .before .if1 .taken))) (c .before .before .put-byte .ensures)
 
-put-byte-requires-2 : tie.Need-put-byte-requires-2
-put-byte-requires-2 c κs = search needs
+slice-aggregate-put-bytes : tie.Need-slice-aggregate-put-bytes
+slice-aggregate-put-bytes c = search needs
 
-put-byte-requires-3 : tie.Need-put-byte-requires-3
-put-byte-requires-3 c κs = search needs
+put-bytes-requires : tie.Need-put-bytes-requires
+put-bytes-requires c κs = search needs
 
 same-length-2 : tie.Need-same-length-2
 same-length-2 c = search needs
 
 returns-2 : tie.Need-returns-2
 unfolding text
-returns-2 c = same-piece (rw (ne-eqb _ 0 (c .before .before .before .before .before .before .before .before .if1 .left))) (c .before .before .before .before .before .before .put-byte2 .ensures then c .before .before .put-byte3 .ensures)
+returns-2 c = same-piece (rw (ne-eqb _ 0 (c .before .before .before .before .before .if1 .left))) (c .before .before .put-bytes .ensures)
 
 pub put-separator-spec : {M : Type 1} → statement M
 put-separator-spec =
@@ -35,7 +35,7 @@ put-separator-spec =
     put-byte-requires
     same-length
     returns
-    put-byte-requires-2
-    put-byte-requires-3
+    slice-aggregate-put-bytes
+    put-bytes-requires
     same-length-2
     returns-2)

@@ -189,7 +189,7 @@ module _ {p : Printing} {rs : List (List ℕ)} {out₀ : List ℕ} {«from» : �
         rest = rest′;
         stand = d;
         writing = left-turn (g .writing) (ap (linesIn p) y ∙ lines-more p (recordAt p at) rest′)
-        ((same-piece (marked-label (p .o) (p .labels) (p .marks) (p .indent) at (m .marked) (omega (arith, m .marks-room))) (l .label-put) then own-line l) then w);
+            ((same-piece (marked-label (p .o) (p .labels) (p .marks) (p .indent) at (m .marked) (omega (arith, m .marks-room))) (l .label-put) then own-line l) then w);
         long = g .long ∙ (ap (longIn p) y ∙ line-fits p (recordAt p at) rest′ (size .0));
         low = omega (arith, w .next, low-start m g h l .0, g .low);
       }

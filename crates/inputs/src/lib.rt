@@ -1,0 +1,44 @@
+// The inputs that an operation takes beside its body or text: a string table and a sheet, with their refusals in order.
+ghost use mathlib.Core.Path.{_≡_};
+ghost use Rattle.inputs.specs.Read.{SheetGiven, Given};
+use sheet::opcode::Sheet;
+use slices::search::Found;
+
+// The largest opcode of a sheet that was read; or 18, the entry of 17, or the line of 1.
+pub enum Inputs {
+    Ready(usize),
+    TooLarge,
+    Fault(usize),
+    Malformed(usize),
+}
+
+// Reads the sheet into its tables.
+fn read_tables(text: &[u8], types: &mut [[u8; 8]; 256], ops: &mut [[usize; 4]; 256]) -> Inputs
+    ensures { λ r. ⌜ SheetGiven (now (text .entry)) (now (types .exit)) (now (ops .exit)) r ⌝ }
+{
+    let s = sheet::opcode::read_sheet(text, types, ops);
+    match s {
+        Sheet::Read(_, _, above, _) => Inputs::Ready(above - 1),
+        Sheet::Malformed(line) => Inputs::Malformed(line),
+    }
+}
+
+// Looks at the string table, then reads the sheet into its tables.
+pub fn read_inputs(
+    text: &[u8],
+    bytes: &[u8],
+    ends: &[u32],
+    types: &mut [[u8; 8]; 256],
+    ops: &mut [[usize; 4]; 256],
+) -> Inputs
+    ensures { λ r. ⌜ Given (now (text .entry)) (now (bytes .entry)) (now (ends .entry)) (now (types .exit)) (now (ops .exit)) r ⌝ }
+{
+    if strings::table::too_large(bytes, ends) {
+        return Inputs::TooLarge;
+    }
+    let f = strings::table::find_fault(bytes, ends);
+    match f {
+        Found::At(id) => Inputs::Fault(id),
+        Found::Missing => read_tables(text, types, ops),
+    }
+}

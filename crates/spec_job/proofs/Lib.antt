@@ -1,1 +1,3 @@
+pub mod HexLaws
+pub mod TableLaws
 pub mod JobTrials

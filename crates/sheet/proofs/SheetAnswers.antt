@@ -69,20 +69,22 @@ whole v n s b m c types infos e f =
     as-read v n m c types infos (opsFrom n s b 0 []) (w .ops) (w .is-all) l (sym (w .last)) (t .0) (t .1)
 
 -- a text that goes on behind its sheet, one that ends there, and one that is malformed before
-record Sheet-read (x : SheetRead) (n at : ℕ) : Type 0 where
-  of : spec.Sheet
-  is-sheet : x ≡ sheet of at
-  lines : length (of .opcodes) ≡ n
+pub record Sheet-read (x : SheetRead) (n m at : ℕ) : Type 0 where
+  pub of : spec.Sheet
+  pub is-sheet : x ≡ sheet of at
+  pub lines : length (of .opcodes) ≡ n
+  pub last : above 0 (of .opcodes) ≡ m
 
-was-read : (x : SheetRead) (v n m at : ℕ) → sheetAnswer x ≡ Read v n m at → Sheet-read x n at
+pub was-read : (x : SheetRead) (v n m at : ℕ) → sheetAnswer x ≡ Read v n m at → Sheet-read x n m at
 unfolding sheetAnswer
 was-read (sheet sh b) v n m at e =
     let p : length (sh .opcodes) ≡ n = cc e in
     let q : b ≡ at = cc e in
-    record { of = sh; is-sheet = ap (sheet sh) q; lines = p }
+    let w : above 0 (sh .opcodes) ≡ m = cc e in
+    record { of = sh; is-sheet = ap (sheet sh) q; lines = p; last = w }
 was-read (malformed k) v n m at e = absurd (let z : _≡_ {A = ℕ} 0 1 = cc e in omega arith)
 
-was-malformed : (x : SheetRead) (k : ℕ) → sheetAnswer x ≡ Malformed k → x ≡ malformed k
+pub was-malformed : (x : SheetRead) (k : ℕ) → sheetAnswer x ≡ Malformed k → x ≡ malformed k
 unfolding sheetAnswer
 was-malformed (sheet sh b) k e = absurd (let z : _≡_ {A = ℕ} 0 1 = cc e in omega arith)
 was-malformed (malformed j) k e = let p : j ≡ k = cc e in ap malformed p

@@ -1,14 +1,14 @@
 -- Laws of bytes in hex, case by case, and how much text they take. Assumes nothing.
-use mathlib.Core.Path.{_≡_, refl, ap, sym, _∙_}
+use mathlib.Core.Path.{_≡_, refl, ap, sym}
 use mathlib.Core.Bool.{Bool, true, false}
 use mathlib.Core.List.{List, [], _∷_}
 use Prim.Native.Nat.{ℕ, zero, suc, _+_, _*_, _≤_, _<_}
 use native.Mathlib.Omega.{arith}
 use lib.Dec.{eqb, ltb}
 use lib.ListN.{length, getD, List·getD-eq-default}
-use borrow.Author.Tests.{eq-eqb, ne-eqb, lt-ltb, le-ltb, eqb-true, ltb-true}
+use borrow.Author.Tests.{eq-eqb, ne-eqb, lt-ltb, le-ltb, eqb-true}
 use Rattle.lists.specs.Choice.{pick, both}
-use Rattle.lists.proofs.Tests.{both-left, both-right, both-no-right}
+use Rattle.lists.proofs.Tests.{both-no-right}
 use Rattle.lists.proofs.Parts.{inside}
 use Rattle.spec_numbers.specs.Parse.{digitValue}
 use Rattle.spec_job.specs.Hex.{HexRead, withByte, hexFrom, hexAt}

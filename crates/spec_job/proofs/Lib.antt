@@ -1,3 +1,4 @@
 pub mod HexLaws
 pub mod TableLaws
+pub mod JobLaws
 pub mod JobTrials

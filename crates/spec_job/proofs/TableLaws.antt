@@ -2,7 +2,7 @@
 use mathlib.Core.Path.{_≡_, refl, ap, sym, _∙_}
 use mathlib.Core.Bool.{Bool, true, false}
 use mathlib.Core.List.{List, [], _∷_, _++_}
-use Prim.Native.Nat.{ℕ, zero, suc, _+_, _-_, _*_, _≤_, _<_}
+use Prim.Native.Nat.{ℕ, zero, suc, _+_, _-_, _*_, _≤_}
 use native.Mathlib.Omega.{arith}
 use lib.ListN.{length, drop, length-append}
 use Rattle.lists.specs.Choice.{pick}
@@ -10,7 +10,7 @@ use Rattle.lists.specs.Scan.{opens}
 use Rattle.lists.specs.Text.{text}
 use Rattle.spec_sheet.specs.Scan.{Step, after, literalAt, keyedAt, lineEnd}
 use Rattle.spec_sheet.specs.Scan.Step.{next, off}
-use Rattle.spec_sheet.proofs.ScanLaws.{Reached, reached, keyed-bound}
+use Rattle.spec_sheet.proofs.ScanLaws.{reached, keyed-bound}
 use Rattle.spec_job.specs.Hex.{HexRead, hexAt}
 use Rattle.spec_job.specs.Hex.HexRead.{hex, noHex}
 use Rattle.spec_job.specs.Table.{TableRead, onHex, keyedHexAt, stringsFrom, stringsLimit, tableAt}

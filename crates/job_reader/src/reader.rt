@@ -1,0 +1,84 @@
+// The parts of a job, numbered by its lines: which job it is, an edition, the body.
+ghost use mathlib.Core.Path.{_≡_};
+ghost use Prim.Native.Nat.{_≤_};
+ghost use lib.ListN.{length};
+ghost use Rattle.lists.specs.Scan.{opens};
+ghost use Rattle.lists.specs.Text.{text};
+ghost use Rattle.spec_job.specs.Job.{editionAt, withBody};
+ghost use Rattle.job_reader.specs.ReaderAnswers.{EditionIn, BodyIn};
+use crate::hex::HexLine;
+use crate::table::TableAnswer;
+use sheet::opcode::Sheet;
+use sheet::scan::Step;
+
+// Whether the job asks for a listing.
+pub fn is_list(s: &[u8]) -> bool
+    ensures { λ r. ⌜ r ≡ opens (text "job=list\n") (now (s .entry)) ⌝ }
+{
+    let l = sheet::scan::literal_at(s, 0, b"job=list\n");
+    match l {
+        Step::Next(_, _) => true,
+        Step::Off => false,
+    }
+}
+
+// An edition that was read: the place behind it and the number of the line there, one more than its largest opcode, how
+// many strings it has and how many bytes; or the malformed line, numbered in the job.
+pub enum EditionAnswer {
+    Read(usize, usize, usize, usize, usize),
+    BadLine(usize),
+}
+
+// The edition that stands at `at`, on the job's line `line`: the sheet's tables by opcode, then the strings.
+pub fn edition_at(
+    s: &[u8],
+    at: usize,
+    line: usize,
+    types: &mut [[u8; 8]; 256],
+    ops: &mut [[usize; 4]; 256],
+    bytes: &mut [u8],
+    ends: &mut [u32],
+) -> EditionAnswer
+    requires { ⌜ (length (now s) ≤ 65536) × (line ≤ 65536) × (4096 ≤ length (now ends)) ⌝ }
+    ensures { λ r. ⌜ EditionIn (editionAt (now (s .entry)) at line) (now (types .exit)) (now (ops .exit)) (now (bytes .exit)) (now (ends .exit)) r ⌝ }
+{
+    let r = sheet::opcode::sheet_at(s, at, types, ops);
+    match r {
+        Sheet::Read(_, lines, above, b) => {
+            let strings_line = line + 2 + lines;
+            let t = crate::table::table_at(s, b, bytes, ends);
+            match t {
+                TableAnswer::Read(place, count, size) => EditionAnswer::Read(
+                    place,
+                    strings_line + 1 + count,
+                    above,
+                    count,
+                    size,
+                ),
+                TableAnswer::FaultAfter(k) => EditionAnswer::BadLine(strings_line + k),
+            }
+        }
+        Sheet::Malformed(k) => EditionAnswer::BadLine(line + k - 1),
+    }
+}
+
+// How many bytes a body has; or the malformed line, numbered in the job.
+pub enum BodyAnswer {
+    Read(usize),
+    BadLine(usize),
+}
+
+// The body that stands at `at`, on the job's line `line`, with nothing behind it. Its bytes are kept where they fit.
+pub fn body_at(s: &[u8], at: usize, line: usize, out: &mut [u8]) -> BodyAnswer
+    requires { ⌜ line ≤ 65536 ⌝ }
+    ensures { λ r. ⌜ BodyIn (withBody (now (s .entry)) at line) (now (out .exit)) r ⌝ }
+{
+    let l = crate::hex::keyed_hex_at(s, at, b"body=", out, 0);
+    let HexLine::To(b, n) = l else {
+        return BodyAnswer::BadLine(line);
+    };
+    if b == s.len() {
+        return BodyAnswer::Read(n);
+    }
+    BodyAnswer::BadLine(line + 1)
+}

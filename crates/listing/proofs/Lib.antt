@@ -1,1 +1,2 @@
 pub mod LinesLoop
+pub mod WrittenLaws

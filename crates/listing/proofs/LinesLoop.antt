@@ -1,10 +1,10 @@
 -- The loop that writes the lines of a body. Assumes nothing.
-use mathlib.Core.Path.{_≡_, refl, ap, sym, _∙_}
+use mathlib.Core.Path.{_≡_, refl, ap, _∙_}
 use mathlib.Core.Bool.{Bool, true, false}
-use mathlib.Core.List.{List, [], _∷_, _++_, append-assoc}
+use mathlib.Core.List.{List, [], _∷_, _++_}
 use Prim.Native.Nat.{ℕ, _+_, _-_, _*_, _^_, _<_, _≤_, min}
 use native.Mathlib.Omega.{arith}
-use lib.Dec.{ltb, eqb}
+use lib.Dec.{eqb}
 use lib.ListN.{length, getD, length-append}
 use borrow.Author.Tests.{lt-ltb, le-ltb}
 use Rattle.lists.specs.Choice.{pick, both}
@@ -12,22 +12,19 @@ use Rattle.lists.specs.Text.{text}
 use Rattle.lists.specs.Found.{Found}
 use Rattle.lists.specs.Found.Found.{found, missing}
 use Rattle.lists.specs.Write.{Put, top}
-use Rattle.lists.proofs.Writes.{_then_, same-piece, kept-length}
+use Rattle.lists.proofs.Writes.{_then_, same-piece}
 use Rattle.lists.proofs.LeftToWrite.{Left, left-all, left-turn, left-none}
 use Rattle.spec_numbers.specs.Print.{decimal}
 use Rattle.spec_numbers.proofs.PrintLaws.{decimal-length}
 use Rattle.spec_body.specs.Record.{lengthOf, recordOf}
-use Rattle.spec_body.specs.Decode.{Decoded, rowAt, decodeBody}
-use Rattle.spec_body.specs.Decode.Decoded.{decoded}
+use Rattle.spec_body.specs.Decode.{rowAt, decodeBody}
 use Rattle.spec_body.proofs.DecodeLaws.{Decoding, body-stands}
 use Rattle.spec_body.proofs.DecodeLaws.Decoding.{ended, more}
 use Rattle.spec_listing.specs.Edition.{Edition, Options}
 use Rattle.spec_listing.specs.Line.{offsetOf, instructionText}
-use Rattle.spec_listing.specs.Labels.{labelOffsets, among}
+use Rattle.spec_listing.specs.Labels.{labelOffsets}
 use Rattle.spec_listing.specs.Listing.{labelLine, labelText, instructionLine, linesOf, longLine}
 use Rattle.listing.specs.Parts.{Decodes, recordsOf, Marked, markedText, optionsOf, editionOf}
-use Rattle.listing.specs.declared.body_lines.Lines.{Lines}
-use Rattle.listing.specs.declared.body_lines.Lines.the-variants as lines
 
 -- the records of a body that decodes
 pub records-are : (types : List (List ℕ)) (last : ℕ) (s : List ℕ) (d : Decodes types last s) → Decoding types last s 0 (recordsOf (decodeBody types last s))

@@ -1,2 +1,3 @@
-// The listing of a body and of one function: disassemble_function of disasm.rs.
+// The listing of one body: disassemble_function of disasm.rs.
+pub mod body;
 pub mod body_lines;

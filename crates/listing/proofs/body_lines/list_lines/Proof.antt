@@ -1,4 +1,4 @@
-use mathlib.Core.Path.{refl, sym, _∙_}
+use mathlib.Core.Path.{refl}
 use Prim.Native.Nat.{_-_}
 use native.Mathlib.Omega.{arith}
 use lib.ListN.{length}
@@ -6,17 +6,10 @@ use Rattle.lists.proofs.Writes.{_then_}
 use Rattle.spec_body.specs.Decode.{decodeBody}
 use Rattle.listing.specs.Parts.{recordsOf}
 use Rattle.listing.specs.Parts.Lined.{all, over}
-use Rattle.listing.proofs.LinesLoop.{Going, Line, printing, given, records-are, start, inside, stopped, turn, finished, put-rises, fits-next, less-next}
+use Rattle.listing.proofs.LinesLoop.{Going, printing, given, records-are, start, inside, stopped, turn, finished, put-rises, fits-next, less-next}
 use borrow.Author.Needs.{needs}
 use Rattle.listing.proofs.body_lines.list_lines.Statement.{statement}
 use Rattle.listing.proofs.body_lines.list_lines.Tie as tie
-use Rattle.listing.proofs.body_lines.list_lines.Reads as reads
-use Rattle.listing.proofs.body_lines.list_lines.Lts as lts
-use Rattle.decode.proofs.record.instruction_length.Reads as instruction-length-reads
-use Rattle.lines.proofs.instruction.put_instruction.Reads as put-instruction-reads
-use Rattle.listing.proofs.body_lines.put_mark.Reads as put-mark-reads
-use Rattle.slices.proofs.write.put_byte.Reads as put-byte-reads
-use Rattle.slices.proofs.write.put_bytes.Reads as put-bytes-reads
 
 abbrev Inv-loop : tie.InvT-loop
 Inv-loop offsets labels texts source types ops last bytes ends s marks indent out₀ «from» k₀ at₀ out k at =
@@ -25,75 +18,57 @@ Inv-loop offsets labels texts source types ops last bytes ends s marks indent ou
 abbrev μ-loop : tie.MeasureT-loop
 μ-loop offsets labels texts source types ops last bytes ends s marks indent out₀ «from» k₀ at₀ out k at = length s - at
 
--- src/body_lines.rt:72:5
 loop-holds : tie.Need-loop-holds Inv-loop μ-loop
 loop-holds c = start (records-are _ _ _ (c .before .before .before .before .before .before .before .pre .0)) (omega arith) (omega arith)
 
--- src/body_lines.rt:73:18
 shared-slice-read-op : tie.Need-shared-slice-read-op Inv-loop μ-loop
 shared-slice-read-op c = search needs
 
--- src/body_lines.rt:73:18
 cast-op : tie.Need-cast-op Inv-loop μ-loop
 cast-op c = omega (arith, c .shared-slice-known7 .given (c .before .before .loop .at))
 
--- src/body_lines.rt:74:19
 mul-row : tie.Need-mul-row Inv-loop μ-loop
 mul-row c = omega (arith, c .shared-slice-known7 .given (c .before .before .loop .at))
 
--- src/body_lines.rt:74:19
 element-copy-out-row : tie.Need-element-copy-out-row Inv-loop μ-loop
 element-copy-out-row c = c .shared-slice-known7 .given (c .before .before .loop .at) .fits
 
--- src/body_lines.rt:75:13
 instruction-length-requires : tie.Need-instruction-length-requires Inv-loop μ-loop
 instruction-length-requires c κs = search needs
 
--- src/body_lines.rt:76:13
 put-mark-requires : tie.Need-put-mark-requires Inv-loop μ-loop
 put-mark-requires c κs = omega (arith, c .before .before .before .before .before .before .before .before .before .before .before .before .before .pre .1 .1 .0, c .before .before .before .before .loop-test .taken)
 
--- src/body_lines.rt:77:13
 put-bytes-requires : tie.Need-put-bytes-requires Inv-loop μ-loop
 put-bytes-requires c κs = search needs
 
--- src/body_lines.rt:78:13
 put-instruction-requires : tie.Need-put-instruction-requires Inv-loop μ-loop
 put-instruction-requires c κs = (inside (c .before .before .before .before .before .before .before .before .before .before .before .before .before .loop .inv) (c .before .before .before .before .before .before .before .before .before .before .before .before .loop-test .taken), c .before .before .before .before .before .before .before .before .before .before .before .before .before .before .before .before .before .before .before .before .before .pre .1 .1 .1)
 
--- src/body_lines.rt:91:19
 sub-if1 : tie.Need-sub-if1 Inv-loop μ-loop
 sub-if1 c = put-rises (c .before .before .before .before .before .before .put-bytes .ensures then c .before .before .put-instruction .ensures) (omega arith)
 
--- src/body_lines.rt:92:13
 same-length : tie.Need-same-length Inv-loop μ-loop
 same-length c = search needs
 
--- src/body_lines.rt:92:13
 returns : tie.Need-returns Inv-loop μ-loop
 returns c = over _ (stopped (given _ (c .before .before .before .before .before .before .before .before .before .before .before .before .before .before .before .before .before .before .before .before .before .before .before .before .before .pre .1 .0) (c .before .before .before .before .before .before .before .before .before .before .before .before .before .before .before .before .before .before .before .before .before .before .before .before .before .pre .1 .1)) (c .before .before .before .before .before .before .before .before .before .before .before .before .before .before .before .before .before .loop .inv) (c .before .before .before .before .before .before .before .before .before .before .before .before .before .before .before .before .loop-test .taken) (record { o₁ = _; label-put = c .before .before .before .before .before .before .before .before .before .before .before .put-mark .ensures; o₂ = _; b = _; indent-put = c .before .before .before .before .before .before .before .put-bytes .ensures; text-put = c .before .before .before .put-instruction .ensures }) (c .if1 .taken)) refl
 
--- src/body_lines.rt:94:9
 put-byte-requires : tie.Need-put-byte-requires Inv-loop μ-loop
 put-byte-requires c κs = search needs
 
--- src/body_lines.rt:95:9
 add-at : tie.Need-add-at Inv-loop μ-loop
 add-at c = record { fits = fits-next _ _ _ (rw (c .before .before .before .before .before .before .before .before .before .before .before .before .before .before .before .before .before .instruction-length .ensures .0) (inside (c .before .before .before .before .before .before .before .before .before .before .before .before .before .before .before .before .before .before .before .before .before .loop .inv) (c .before .before .before .before .before .before .before .before .before .before .before .before .before .before .before .before .before .before .before .before .loop-test .taken))) (c .before .before .before .before .before .before .before .before .before .before .before .before .before .before .before .before .before .before .before .before .before .before .before .before .before .before .before .before .before .pre .1 .1 .1) }
 
--- src/body_lines.rt:72:5
 loop-less : tie.Need-loop-less Inv-loop μ-loop
 loop-less c = less-next _ _ _ (c .before .before .before .before .before .before .before .before .before .before .before .before .before .before .before .before .before .before .before .before .loop-test .taken) (rw (c .before .before .before .before .before .before .before .before .before .before .before .before .before .before .before .before .before .instruction-length .ensures .0) (omega arith))
 
--- src/body_lines.rt:72:5
 loop-again : tie.Need-loop-again Inv-loop μ-loop
 loop-again c = turn (given _ (c .before .before .before .before .before .before .before .before .before .before .before .before .before .before .before .before .before .before .before .before .before .before .before .before .before .before .before .before .before .pre .1 .0) (c .before .before .before .before .before .before .before .before .before .before .before .before .before .before .before .before .before .before .before .before .before .before .before .before .before .before .before .before .before .pre .1 .1)) (c .before .before .before .before .before .before .before .before .before .before .before .before .before .before .before .before .before .before .before .before .before .loop .inv) (c .before .before .before .before .before .before .before .before .before .before .before .before .before .before .before .before .before .before .before .before .loop-test .taken) (record { o₁ = _; label-put = c .before .before .before .before .before .before .before .before .before .before .before .before .before .before .before .put-mark .ensures; o₂ = _; b = _; indent-put = c .before .before .before .before .before .before .before .before .before .before .before .put-bytes .ensures; text-put = c .before .before .before .before .before .before .before .put-instruction .ensures }) (c .before .before .before .before .if1 .left) (c .before .before .put-byte .ensures) (c .before .before .before .before .before .before .before .before .before .before .before .before .before .before .before .before .before .instruction-length .ensures .0)
 
--- src/body_lines.rt:46:1
 same-length-2 : tie.Need-same-length-2 Inv-loop μ-loop
 same-length-2 c = search needs
 
--- src/body_lines.rt:46:1
 returns-2 : tie.Need-returns-2 Inv-loop μ-loop
 returns-2 c = let f = finished (c .before .loop .inv) (c .loop-test .left) in all _ (f .0) refl (f .1)
 

@@ -4,40 +4,28 @@ use Rattle.lists.proofs.Writes.{_then_}
 use borrow.Author.Needs.{needs}
 use Rattle.listing.proofs.body_lines.put_label.Statement.{statement}
 use Rattle.listing.proofs.body_lines.put_label.Tie as tie
-use Rattle.listing.proofs.body_lines.put_label.Reads as reads
-use Rattle.listing.proofs.body_lines.put_label.Lts as lts
-use Rattle.numbers.proofs.print.put_decimal.Reads as put-decimal-reads
-use Rattle.slices.proofs.write.put_bytes.Reads as put-bytes-reads
 
--- src/lines.rt:26:9
 put-bytes-requires : tie.Need-put-bytes-requires
 put-bytes-requires c κs = search needs
 
--- src/lines.rt:27:31
 slice-aggregate-put-bytes : tie.Need-slice-aggregate-put-bytes
 slice-aggregate-put-bytes c = search needs
 
--- src/lines.rt:27:9
 put-bytes-requires-2 : tie.Need-put-bytes-requires-2
 put-bytes-requires-2 c κs = search needs
 
--- src/lines.rt:28:9
 put-decimal-requires : tie.Need-put-decimal-requires
 put-decimal-requires c κs = search needs
 
--- src/lines.rt:29:23
 slice-aggregate-put-bytes-2 : tie.Need-slice-aggregate-put-bytes-2
 slice-aggregate-put-bytes-2 c = search needs
 
--- src/lines.rt:29:5
 put-bytes-requires-3 : tie.Need-put-bytes-requires-3
 put-bytes-requires-3 c κs = search needs
 
--- src/lines.rt:23:1
 same-length : tie.Need-same-length
 same-length c = search needs
 
--- src/lines.rt:23:1
 returns : tie.Need-returns
 unfolding labelLine text
 returns c = c .before .before .before .before .before .before .before .before .before .before .before .before .before .before .before .before .put-bytes .ensures then c .before .before .before .before .before .before .before .before .before .before .before .put-bytes2 .ensures then c .before .before .before .before .before .before .before .put-decimal .ensures then c .before .before .put-bytes3 .ensures

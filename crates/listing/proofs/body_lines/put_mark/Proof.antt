@@ -2,37 +2,28 @@ use native.Mathlib.Omega.{arith}
 use Rattle.listing.specs.Parts.{markedText}
 use Rattle.lists.proofs.Writes.{same-piece, wrote-none}
 use borrow.Author.Tests.{eq-eqb, ne-eqb}
-use mathlib.Core.Path.{sym, refl}
+use mathlib.Core.Path.{sym}
 use borrow.Author.Needs.{needs}
 use Rattle.listing.proofs.body_lines.put_mark.Statement.{statement}
 use Rattle.listing.proofs.body_lines.put_mark.Tie as tie
-use Rattle.listing.proofs.body_lines.put_mark.Reads as reads
-use Rattle.listing.proofs.body_lines.put_mark.Lts as lts
-use Rattle.listing.proofs.body_lines.put_label.Reads as put-label-reads
 
--- src/lines.rt:38:12
 shared-slice-read-if2 : tie.Need-shared-slice-read-if2
 shared-slice-read-if2 c = search needs
 
--- src/lines.rt:39:13
 put-label-requires : tie.Need-put-label-requires
 put-label-requires c κs = search needs
 
--- src/lines.rt:39:13
 same-length : tie.Need-same-length
 same-length c = search needs
 
--- src/lines.rt:39:13
 returns : tie.Need-returns
 unfolding markedText
 returns c = same-piece (sym (rw (c .before .before .before .before .before .before .if1 .taken, eq-eqb _ _ (c .before .before .before .before .if2 .taken)))) (c .before .before .put-label .ensures)
 
--- src/lines.rt:33:1
 returns-2 : tie.Need-returns-2
 unfolding markedText
 returns-2 c = same-piece (sym (rw (c .before .before .if1 .taken, ne-eqb _ _ (c .if2 .left)))) (wrote-none (omega arith) (omega arith))
 
--- src/lines.rt:33:1
 returns-3 : tie.Need-returns-3
 unfolding markedText
 returns-3 c = same-piece (sym (rw (c .if1 .left))) (wrote-none (omega arith) (omega arith))

@@ -1,0 +1,2 @@
+// The listing operations: a body, one function of an area, a whole module.
+pub mod answer;

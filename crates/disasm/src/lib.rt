@@ -1,2 +1,3 @@
 // The listing operations: a body, one function of an area, a whole module.
 pub mod answer;
+pub mod operation;

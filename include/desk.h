@@ -1,0 +1,55 @@
+/* The desk's functions for a host in C. They are proved to do what their definitions say, for every input.
+ *
+ * A slice is a pointer and a count of elements, in this order; a count of 0 may come with a null pointer.
+ * The caller's duties, which no proof sees: each pointer is valid for its count and aligned for its type; a buffer that is
+ * written (out, entries) overlaps no other buffer of the call; nothing else touches the buffers during the call.
+ * There is no state between calls and no allocation.
+ *
+ * Each function answers four numbers. After success number, place and operand are 0 and length counts what was written.
+ * After a refusal number says why (README.md has the table), place where, operand which (from 1, 0 for none), and length
+ * is 0. Afterwards
+ *   - out holds the result in front and its former content behind it; after a refusal it is all zero;
+ *   - entries, which is work space, is all zero in every case.
+ *
+ * Inputs that come up again:
+ *   sheet      the text of an opcode sheet: version=.., count=.., op=.. lines, each ended by LF
+ *   bytes/ends the string table: the texts' bytes one behind the other, and where each one ends
+ *   functions  triples of offset, size and name id, one for each function; offsets count from base
+ *   area       the bytes in which the functions' bodies lie
+ */
+#ifndef DESK_H
+#define DESK_H
+
+#include <stdbool.h>
+#include <stddef.h>
+#include <stdint.h>
+
+#ifdef __cplusplus
+extern "C" {
+#endif
+
+struct desk_answer {
+    uint64_t number;
+    uint64_t place;
+    uint64_t operand;
+    uint64_t length;
+};
+
+/* Decodes a body into records of 20 words. length counts the records. */
+struct desk_answer desk_decode(const uint8_t *sheet, size_t sheet_len, const uint8_t *body, size_t body_len,
+                               uint64_t *out, size_t out_len);
+
+/* The same for function number id of an area. */
+struct desk_answer desk_decode_function(const uint8_t *sheet, size_t sheet_len, const uint32_t *functions,
+                                        size_t functions_len, const uint8_t *area, size_t area_len, uint32_t base,
+                                        size_t id, uint64_t *out, size_t out_len);
+
+/* Encodes records of 20 words into a body. length counts the bytes. */
+struct desk_answer desk_encode(const uint8_t *sheet, size_t sheet_len, const uint64_t *words, size_t words_len,
+                               uint8_t *out, size_t out_len);
+
+#ifdef __cplusplus
+}
+#endif
+
+#endif

@@ -1,0 +1,4 @@
+pub mod DifferentLaws
+pub mod PartLaws
+pub mod PartLoop
+pub mod CountLaws

@@ -3,3 +3,6 @@ pub mod NoteLaws
 pub mod TargetLaws
 pub mod TargetsLoop
 pub mod InstructionLaws
+pub mod WalkLoop
+pub mod MarkLaws
+pub mod CollectLaws

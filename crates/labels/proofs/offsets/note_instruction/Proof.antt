@@ -1,3 +1,4 @@
+use Rattle.labels.specs.Notes.{notesOf}
 use Rattle.labels.proofs.InstructionLaws.{behind-few, plain-few, jump-noted, plain-noted}
 use native.Mathlib.Omega.{arith}
 use borrow.Author.Needs.{needs}
@@ -26,8 +27,9 @@ note-targets-requires : tie.Need-note-targets-requires
 note-targets-requires c κs =
     let a = c .before .before .before .before .before .before .before .before .before .before .before .before .before .before in
     let x = a .args in
+    let n = notesOf (x .marks .now) (x .stored .now) (x .counts) in
     let b = c .before .before .before .before .before .before .before .note-behind in
-    (search needs, search needs, behind-few (x .text .now) (x .t2) (x .row) (x .s .now) (x .at) (x .size) _ _ (a .pre .0) (b .ensures) (a .pre .3))
+    (search needs, search needs, behind-few (x .text .now) (x .t2) (x .row) (x .s .now) (x .at) (x .size) n _ (a .pre .0) (b .ensures) (a .pre .3))
 
 same-length : tie.Need-same-length
 same-length c = search needs
@@ -39,9 +41,10 @@ returns : tie.Need-returns
 returns c =
     let a = c .before .before .before .before .before .before .before .before .before .before .before .before .before .before .before .before .before .before .before in
     let x = a .args in
+    let n = notesOf (x .marks .now) (x .stored .now) (x .counts) in
     let b = c .before .before .before .before .before .before .before .before .before .before .before .before .note-behind in
     let t = c .before .before .before .before .note-targets in
-    (jump-noted (x .text .now) (x .t2) (x .row) (x .s .now) (x .at) (x .size) _ _ (a .pre .0) (b .ensures) (a .pre .3) _ (c .before .before .before .before .before .before .before .if1 .taken) (t .ensures .0), omega (arith, a .pre .0, t .ensures .1))
+    (jump-noted (x .text .now) (x .t2) (x .row) (x .s .now) (x .at) (x .size) n _ (a .pre .0) (b .ensures) (a .pre .3) _ (c .before .before .before .before .before .before .before .if1 .taken) (t .ensures .0), omega (arith, a .pre .0, t .ensures .1))
 
 same-length-3 : tie.Need-same-length-3
 same-length-3 c = search needs
@@ -53,9 +56,10 @@ returns-2 : tie.Need-returns-2
 returns-2 c =
     let a = c .before .before .before .before .before .before .before .before .before .before .before .before in
     let x = a .args in
+    let n = notesOf (x .marks .now) (x .stored .now) (x .counts) in
     let b = c .before .before .before .before .before .note-behind in
-    let f = plain-few (x .text .now) (x .t2) (x .row) (x .s .now) (x .at) (x .size) _ _ (a .pre .0) (b .ensures) (a .pre .3) in
-    (plain-noted (x .text .now) (x .t2) (x .row) (x .s .now) (x .at) (x .size) _ _ (a .pre .0) (b .ensures) (a .pre .3) (c .if1 .left), f)
+    let f = plain-few (x .text .now) (x .t2) (x .row) (x .s .now) (x .at) (x .size) n _ (a .pre .0) (b .ensures) (a .pre .3) in
+    (plain-noted (x .text .now) (x .t2) (x .row) (x .s .now) (x .at) (x .size) n _ (a .pre .0) (b .ensures) (a .pre .3) (c .if1 .left), f)
 
 pub note-instruction-spec : {M : Type 1} → statement M
 note-instruction-spec =

@@ -1,2 +1,3 @@
 pub mod LinesLoop
 pub mod WrittenLaws
+pub mod BodyLaws

@@ -1,0 +1,68 @@
+use Rattle.listing.proofs.BodyLaws.{zeroed, cleared-size}
+use lib.ListN.{length}
+use mathlib.Core.Path.{_≡_}
+use native.Mathlib.Omega.{arith}
+use borrow.Author.Needs.{needs}
+use Rattle.listing.proofs.body.list_body.Statement.{statement}
+use Rattle.listing.proofs.body.list_body.Tie as tie
+
+few-marks-requires : tie.Need-few-marks-requires
+few-marks-requires c κs = search needs
+
+slice-aggregate-clear : tie.Need-slice-aggregate-clear
+slice-aggregate-clear c = search needs
+
+clear-requires : tie.Need-clear-requires
+clear-requires c κs = search needs
+
+slice-aggregate-list-marked : tie.Need-slice-aggregate-list-marked
+slice-aggregate-list-marked c = search needs
+
+list-marked-requires : tie.Need-list-marked-requires
+list-marked-requires c κs = let w = c .before .before .before .clear in let q = c .before .before .before .before .before .before .before .before .before .before .before .before .before .pre in let h : length (c .before .before .before .before .before .few-marks .result) ≡ 4096 = search needs in (zeroed (c .before .before .before .before .before .few-marks .result) _ (w .ensures), (omega (arith, h, cleared-size (c .before .before .before .before .before .few-marks .result) _ (w .ensures), c .before .before .before .before .before .before .if1 .taken), q .0, q .1, q .2))
+
+same-length : tie.Need-same-length
+same-length c = search needs
+
+returns : tie.Need-returns
+returns c = search needs
+
+all-marks-requires : tie.Need-all-marks-requires
+all-marks-requires c κs = search needs
+
+slice-aggregate-clear-2 : tie.Need-slice-aggregate-clear-2
+slice-aggregate-clear-2 c = search needs
+
+clear-requires-2 : tie.Need-clear-requires-2
+clear-requires-2 c κs = search needs
+
+slice-aggregate-list-marked-2 : tie.Need-slice-aggregate-list-marked-2
+slice-aggregate-list-marked-2 c = search needs
+
+list-marked-requires-2 : tie.Need-list-marked-requires-2
+list-marked-requires-2 c κs = let w = c .before .before .before .clear2 in let q = c .before .before .before .before .before .before .before .before .before .before .before .before .before .pre in let h : length (c .before .before .before .before .before .all-marks .result) ≡ 65536 = search needs in (zeroed (c .before .before .before .before .before .all-marks .result) _ (w .ensures), (omega (arith, h, cleared-size (c .before .before .before .before .before .all-marks .result) _ (w .ensures), q .0), q .0, q .1, q .2))
+
+same-length-2 : tie.Need-same-length-2
+same-length-2 c = search needs
+
+returns-2 : tie.Need-returns-2
+returns-2 c = search needs
+
+pub list-body-spec : {M : Type 1} → statement M
+list-body-spec =
+    tie.close
+    (tie.spec
+    few-marks-requires
+    slice-aggregate-clear
+    clear-requires
+    slice-aggregate-list-marked
+    list-marked-requires
+    same-length
+    returns
+    all-marks-requires
+    slice-aggregate-clear-2
+    clear-requires-2
+    slice-aggregate-list-marked-2
+    list-marked-requires-2
+    same-length-2
+    returns-2)

@@ -44,12 +44,12 @@ module _ (k : List ℕ) (i x : ℕ) where
       go true = refl
       go false = refl
 
--- whether an offset was there, by its mark
+-- whether an offset is a label, by its mark
 module _ (v : ℕ) (p : Bool) (e : v ≡ pick p 1 0) where
-  was-there : (v ≡ 0 → ⊥) → p ≡ true
+  pub was-there : (v ≡ 0 → ⊥) → p ≡ true
   was-there h = by-test p (λ q. q) (λ q. absurd (h (e ∙ rw q)))
 
-  was-not : v ≡ 0 → p ≡ false
+  pub was-not : v ≡ 0 → p ≡ false
   was-not h = by-test p (λ q. absurd (let z : _≡_ {A = ℕ} 1 0 = sym (e ∙ rw q) ∙ h in omega arith)) (λ q. q)
 
 -- the marks

@@ -117,6 +117,7 @@ pub fn collect_label_offsets(
     ensures { λ r. ⌜ r ≡ collectedOf (tables (now (text .entry)) (now (types .entry)) (now (ops .entry))) (decodeBody (now (types .entry)) last (now (s .entry))) ⌝ }
     ensures { λ _. ⌜ AllMarked (tables (now (text .entry)) (now (types .entry)) (now (ops .entry))) (decodeBody (now (types .entry)) last (now (s .entry))) (now (marks .exit)) ⌝ }
 {
+    // Far offsets are only counted here, so what this holds is never looked at.
     let mut none = [0u32; 1];
     let w = walk(text, types, ops, last, s, marks, &mut none);
     match w {

@@ -1,12 +1,14 @@
 -- The operations under inputs that were read or refused. Assumes nothing.
-use mathlib.Core.Path.{_≡_, refl, ap, sym, _∙_}
-use mathlib.Core.List.{List, []}
-use Prim.Native.Nat.{ℕ, _<_, _≤_}
+use mathlib.Core.Path.{_≡_, ap, sym, _∙_}
+use mathlib.Core.List.{List, [], _∷_}
+use Prim.Native.Nat.{ℕ, suc, _<_, _≤_}
 use native.Mathlib.Omega.{arith}
-use lib.ListN.{length, replicate}
+use types.Run.{OneOf}
+use mathlib.Core.Logic.{_⊎_, ⊎-elim}
+use lib.ListN.{length}
 use borrow.Author.Tests.{lt-ltb, le-ltb}
-use Rattle.spec_answers.specs.Report.{Report, refusal, success, zeros}
-use Rattle.spec_sheet.specs.Sheet.{typeRows, infoRows, largest}
+use Rattle.spec_answers.specs.Report.{Report, zeros}
+use Rattle.spec_sheet.specs.Sheet.{largest}
 use Rattle.spec_body.specs.Decode.{decodeBody}
 use Rattle.spec_body.specs.Operation.{Outcome}
 use Rattle.spec_body.specs.Operation.Outcome.{refusedWith}
@@ -14,7 +16,7 @@ use Rattle.spec_listing.specs.Edition.{Edition, Options}
 use Rattle.spec_listing.specs.Listing.{listDecoded}
 use Rattle.spec_listing.specs.Operation.{listOutcome, underInputs, list}
 use Rattle.listing.specs.Parts.{editionOf}
-use Rattle.inputs.specs.Read.{inputsReport, Under, Given}
+use Rattle.inputs.specs.Read.{inputsReport, Given}
 use Rattle.inputs.specs.Read.Under.{ready, refused}
 use Rattle.inputs.specs.declared.Inputs.{Inputs}
 use Rattle.inputs.specs.declared.Inputs.the-variants.{Ready}
@@ -48,3 +50,10 @@ bodyUnder o body lent e last = listOutcome lent (listDecoded o e [] (decodeBody 
 pub list-small : (o : Options) (text bytes ends body : List ℕ) (lent : ℕ) → length body ≤ 65536 → list o text bytes ends body lent ≡ underInputs text bytes ends (bodyUnder o body lent)
 unfolding list
 list-small o text bytes ends body lent h = rw (le-ltb 65536 (length body) h)
+
+-- the number of `Ready` is none of the others
+no-tag : {P : Type 0} (n : ℕ) → (P → ⊥) → (0 ≡ suc n) ⊎ P → ⊥
+no-tag n f t = ⊎-elim (λ e. omega arith) f t
+
+pub not-ready : OneOf (1 ∷ 2 ∷ 3 ∷ []) 0 → ⊥
+not-ready t = no-tag 0 (no-tag 1 (λ e. omega arith)) t

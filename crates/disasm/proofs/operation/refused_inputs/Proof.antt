@@ -4,41 +4,31 @@ use mathlib.Core.Path.{sym, ap}
 use borrow.Author.Needs.{needs}
 use Rattle.disasm.proofs.operation.refused_inputs.Statement.{statement}
 use Rattle.disasm.proofs.operation.refused_inputs.Tie as tie
-use Rattle.disasm.proofs.operation.refused_inputs.Reads as reads
-use Rattle.disasm.proofs.operation.refused_inputs.Lts as lts
 
--- src/operation.rt:34:29
 enum-told : tie.Need-enum-told
 enum-told c = search needs
 
--- src/operation.rt:35:29
 enum-told-2 : tie.Need-enum-told-2
 enum-told-2 c = search needs
 
--- src/operation.rt:36:23
 enum-known-i : tie.Need-enum-known-i
 enum-known-i c = search needs
 
--- src/operation.rt:37:27
 enum-known-i-2 : tie.Need-enum-known-i-2
 enum-known-i-2 c = search needs
 
--- src/operation.rt:30:1
 returns : tie.Need-returns
 unfolding inputsReport listReport
 returns c = sym (ap inputsReport (c .enum-told .given .1))
 
--- src/operation.rt:30:1
 returns-2 : tie.Need-returns-2
 unfolding inputsReport listReport
 returns-2 c = sym (ap inputsReport (c .enum-told2 .given .1))
 
--- src/operation.rt:30:1
 returns-3 : tie.Need-returns-3
 unfolding inputsReport listReport
 returns-3 c = sym (ap inputsReport (c .before .i .given .1))
 
--- src/operation.rt:30:1
 returns-4 : tie.Need-returns-4
 unfolding inputsReport listReport
 returns-4 c = sym (ap inputsReport (c .before .i2 .given .1))

@@ -1,3 +1,4 @@
 pub mod AnswerLaws
+pub mod ByteSums
 pub mod RoomLaws
 pub mod WidthLaws

@@ -1,14 +1,52 @@
 // Little-endian numbers of any number of bytes.
 ghost use mathlib.Core.Path.{_≡_};
-ghost use Prim.Native.Nat.{_+_, _≤_};
+ghost use Prim.Native.Nat.{_+_, _^_, _≤_, _<_};
 ghost use lib.ListN.{length};
 ghost use Rattle.lists.specs.Scan.{part};
 ghost use Rattle.lists.specs.Write.{Put};
 ghost use Rattle.spec_numbers.specs.LittleEndian.{le, leBytes};
 use slices::write::put_byte;
 
-// The number of the n bytes from `at` on, from the last byte to the first.
-pub fn read_le(s: &[u8], at: usize, n: usize) -> u64
+fn wide(b: u8) -> u64
+    ensures { λ r. ⌜ (r ≡ b) × (r < 256) ⌝ }
+{
+    b as u64
+}
+
+// The numbers of two, four and eight bytes. Each is the sum of two halves, which compiles to one load.
+fn two_bytes(s: &[u8], at: usize) -> u64
+    requires { ⌜ at + 2 ≤ length (now s) ⌝ }
+    ensures { λ r. ⌜ (r ≡ le (part (now (s .entry)) at 2)) × (r < 256 ^ 2) ⌝ }
+{
+    wide(s[at]) + wide(s[at + 1]) * 256
+}
+
+fn four_bytes(s: &[u8], at: usize) -> u64
+    requires { ⌜ at + 4 ≤ length (now s) ⌝ }
+    ensures { λ r. ⌜ (r ≡ le (part (now (s .entry)) at 4)) × (r < 256 ^ 4) ⌝ }
+{
+    two_bytes(s, at) + two_bytes(s, at + 2) * 65536
+}
+
+fn eight_bytes(s: &[u8], at: usize) -> u64
+    requires { ⌜ at + 8 ≤ length (now s) ⌝ }
+    ensures { λ r. ⌜ (r ≡ le (part (now (s .entry)) at 8)) × (r < 256 ^ 8) ⌝ }
+{
+    four_bytes(s, at) + four_bytes(s, at + 4) * 0x1_0000_0000
+}
+
+// The number of the n bytes from `at` on, out of the eight bytes that end with them: those in front are shifted out, in
+// two steps, since 64 bits at once are too many for a shift.
+pub fn read_of_eight(s: &[u8], at: usize, n: usize) -> u64
+    requires { ⌜ (at + n ≤ length (now s)) × (n ≤ 8) × (8 ≤ at + n) ⌝ }
+    ensures { λ r. ⌜ r ≡ le (part (now (s .entry)) at n) ⌝ }
+{
+    let half = 32 - 4 * n;
+    (eight_bytes(s, at + n - 8) >> half) >> half
+}
+
+// The same byte by byte, from the last to the first.
+fn read_bytes(s: &[u8], at: usize, n: usize) -> u64
     requires { ⌜ (at + n ≤ length (now s)) × (n ≤ 8) ⌝ }
     ensures { λ r. ⌜ r ≡ le (part (now (s .entry)) at n) ⌝ }
 {
@@ -21,6 +59,17 @@ pub fn read_le(s: &[u8], at: usize, n: usize) -> u64
         v = v * 256 + b;
     }
     v
+}
+
+// The number of the n bytes from `at` on.
+pub fn read_le(s: &[u8], at: usize, n: usize) -> u64
+    requires { ⌜ (at + n ≤ length (now s)) × (n ≤ 8) ⌝ }
+    ensures { λ r. ⌜ r ≡ le (part (now (s .entry)) at n) ⌝ }
+{
+    if 8 <= at + n {
+        return read_of_eight(s, at, n);
+    }
+    read_bytes(s, at, n)
 }
 
 // Writes the w bytes of v.

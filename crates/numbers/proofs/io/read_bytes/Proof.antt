@@ -8,8 +8,8 @@ use Rattle.lists.specs.Scan.{part}
 use Rattle.lists.proofs.Parts.{bytes-drop}
 use Rattle.spec_numbers.specs.LittleEndian.{le}
 use Rattle.spec_numbers.proofs.ByteLaws.{le-room, le-step}
-use Rattle.numbers.proofs.io.read_le.Statement.{statement}
-use Rattle.numbers.proofs.io.read_le.Tie as tie
+use Rattle.numbers.proofs.io.read_bytes.Statement.{statement}
+use Rattle.numbers.proofs.io.read_bytes.Tie as tie
 
 abbrev Inv-loop : tie.InvT-loop
 Inv-loop s at n v₀ k₀ v k = (k ≤ n) × (v ≡ le (part s (at + k) (n - k)))
@@ -68,8 +68,8 @@ returns c =
     let k : c .before .loop .k ≡ 0 = omega arith in
     c .before .loop .inv .1 ∙ rw (k, sub-zero, add-zero)
 
-pub read-le-spec : {M : Type 1} → statement M
-read-le-spec =
+pub read-bytes-spec : {M : Type 1} → statement M
+read-bytes-spec =
     tie.close
     (tie.spec
     Inv-loop

@@ -1,44 +1,60 @@
--- The words of a record, one operand at a time. Assumes nothing.
-use mathlib.Core.Path.{_≡_, ap, sym, _∙_}
-use mathlib.Core.List.{List, [], _∷_, _++_, append-assoc}
-use Prim.Native.Nat.{ℕ, suc, _+_, _-_, _*_, _<_}
+-- The words of a record: which they are, and how they are written two by two. Assumes nothing.
+use mathlib.Core.Path.{_≡_, refl, ap, sym, _∙_}
+use mathlib.Core.List.{List, [], _∷_, append-assoc}
+use Prim.Native.Nat.{ℕ, zero, suc, _+_, _*_, _≤_, _<_}
 use native.Mathlib.Nat.{add-zero, add-assoc}
-use native.Mathlib.Numerals.{add-one}
 use native.Mathlib.Omega.{arith}
-use lib.ListN.{length, take, getD, set, replicate, length-append}
-use lib.Seq.{take-suc, length-take-le, set-at}
+use lib.ListN.{length, take, drop, getD, set}
+use lib.Seq.{paste, paste-zero, paste-suc, take-paste, drop-paste, take-add, drop-drop}
 use Rattle.lists.specs.Scan.{part}
 use Rattle.spec_numbers.specs.LittleEndian.{le}
 use Rattle.spec_sheet.specs.Types.{widthOf, kindOf}
-use Rattle.spec_body.specs.Record.{sumBy, widths, pairs}
-use Rattle.spec_body.proofs.DecodeLaws.{length-pairs}
+use Rattle.spec_body.specs.Record.{sumBy, widths, pairs, recordOf}
+use Rattle.spec_body.proofs.DecodeLaws.{length-record}
+use Rattle.decode.specs.Tables.{headRow}
 
-pub pairs-append : (a b s : List ℕ) (p : ℕ) → pairs (a ++ b) s p ≡ pairs a s p ++ pairs b s (p + widths a)
-unfolding pairs sumBy
-pairs-append [] b s p = rw (add-zero p)
-pairs-append (c ∷ a) b s p = rw (pairs-append a b s (p + widthOf c), add-assoc p (widthOf c) (widths a))
-
--- one operand more
-pub pairs-more : (row s : List ℕ) (p q i : ℕ) → i < length row → q ≡ p + widths (take i row)
-    → pairs (take (i + 1) row) s p ≡ pairs (take i row) s p ++ (kindOf (getD row i 0) ∷ le (part s q (widthOf (getD row i 0))) ∷ [])
+-- the i-th operand's kind and bits
+pub pairs-kind : (row s : List ℕ) (p i : ℕ) → i < length row → getD (pairs row s p) (2 * i) 0 ≡ kindOf (getD row i 0)
 unfolding pairs
-pairs-more row s p q i h e = rw (add-one i, take-suc row i 0 h, pairs-append (take i row) (getD row i 0 ∷ []) s p, e)
+pairs-kind [] s p i h = absurd (omega arith)
+pairs-kind (c ∷ row) s p zero h = refl
+pairs-kind (c ∷ row) s p (suc i) h =
+    let e : 2 * suc i ≡ suc (suc (2 * i)) = omega arith in
+    rw e (pairs-kind row s (p + widthOf c) i (omega arith))
 
--- two words are stored behind what is there
-put-two : (p : List ℕ) (j k m a b : ℕ) → length p ≡ j → k ≡ j + 1 → set (set (p ++ replicate (suc (suc m)) 0) j a) k b ≡ (p ++ (a ∷ b ∷ [])) ++ replicate m 0
-put-two p j k m a b e f =
-    let l : length (p ++ (a ∷ [])) ≡ k = length-append p (a ∷ []) ∙ omega arith in
-    ap (λ (x : List ℕ). set x k b) (set-at p 0 (0 ∷ replicate m 0) a j e ∙ sym (append-assoc p (a ∷ []) (0 ∷ replicate m 0)))
-    ∙ (set-at (p ++ (a ∷ [])) 0 (replicate m 0) b k l
-    ∙ (append-assoc p (a ∷ []) (b ∷ replicate m 0) ∙ sym (append-assoc p (a ∷ b ∷ []) (replicate m 0))))
+pub pairs-bits : (row s : List ℕ) (p i : ℕ) → i < length row
+    → getD (pairs row s p) (suc (2 * i)) 0 ≡ le (part s (p + widths (take i row)) (widthOf (getD row i 0)))
+unfolding pairs sumBy
+pairs-bits [] s p i h = absurd (omega arith)
+pairs-bits (c ∷ row) s p zero h = rw (add-zero p)
+pairs-bits (c ∷ row) s p (suc i) h =
+    let e : 2 * suc i ≡ suc (suc (2 * i)) = omega arith in
+    rw (e, ← add-assoc p (widthOf c) (widths (take i row))) (pairs-bits row s (p + widthOf c) i (omega arith))
 
--- a turn of the loop that writes the operands' words behind a head of four
-pub turn : (H row s r : List ℕ) (at p i k v : ℕ) → length H ≡ 4 → length row ≡ 8 → i < 8 → p ≡ at + 1 + widths (take i row) → k ≡ kindOf (getD row i 0)
-    → v ≡ le (part s p (widthOf (getD row i 0))) → r ≡ (H ++ pairs (take i row) s (at + 1)) ++ replicate (16 - 2 * i) 0
-    → set (set r (4 + 2 * i) k) (5 + 2 * i) v ≡ (H ++ pairs (take (i + 1) row) s (at + 1)) ++ replicate (16 - 2 * (i + 1)) 0
-turn H row s r at p i k v hH hr hi hp hk hv e =
-    let m : 16 - 2 * i ≡ suc (suc (16 - 2 * (i + 1))) = omega arith in
-    let ti : length (take i row) ≡ i = length-take-le i row (omega arith) in
-    let l : length (H ++ pairs (take i row) s (at + 1)) ≡ 4 + 2 * i = omega (arith, length-append H (pairs (take i row) s (at + 1)), length-pairs (take i row) s (at + 1)) in
-    rw (e, m, put-two (H ++ pairs (take i row) s (at + 1)) (4 + 2 * i) (5 + 2 * i) (16 - 2 * (i + 1)) k v l (omega arith), pairs-more row s (at + 1) p i (omega arith) hp, hv, hk)
-    (ap (λ (x : List ℕ). x ++ replicate (16 - 2 * (i + 1)) 0) (append-assoc H (pairs (take i row) s (at + 1)) (kindOf (getD row i 0) ∷ le (part s p (widthOf (getD row i 0))) ∷ [])))
+-- two words more of a list that is written from place k on
+pub two-more : (d out r : List ℕ) (k j m a b : ℕ) → k + j + 2 ≤ length d → j + 2 ≤ length r → m ≡ k + j → out ≡ paste d k r j → a ≡ getD r j 0 → b ≡ getD r (suc j) 0
+    → set (set out m a) (m + 1) b ≡ paste d k r (j + 2)
+two-more d out r k j m a b hd hr hm e ea eb =
+    let f : m + 1 ≡ k + suc j = omega arith in
+    let g : j + 2 ≡ suc (suc j) = omega arith in
+    rw (f, g, e, ea, eb, hm, paste-suc d k r j 0 (omega arith) (omega arith)) (paste-suc d k r (suc j) 0 (omega arith) (omega arith))
+
+-- and all that are left of it
+pub rest-more : (d r : List ℕ) (k m n : ℕ) → k ≤ length d → m ≤ length r → paste (paste d k r m) (k + m) (drop m r) n ≡ paste d k r (m + n)
+rest-more d r k m n hk hm =
+    let e : drop (k + m + n) (paste d k r m) ≡ drop (k + (m + n)) d =
+    sym (drop-drop n (k + m) (paste d k r m)) ∙ (ap (drop n) (drop-paste d k r m hk hm) ∙ (drop-drop n (k + m) d ∙ ap (λ (x : ℕ). drop x d) (add-assoc k m n))) in
+    rw (e, take-paste d k r m hk hm, take-add m n r, append-assoc (take k d) (take m r) (take n (drop m r)))
+
+-- two words and two words and the operands' words are a record
+pub record-written : (row s head d o₁ o₂ o₃ : List ℕ) (k at first op size count : ℕ) → length row ≡ 8 → k + 20 ≤ length d → head ≡ headRow row
+    → first ≡ at → op ≡ getD s at 0 → size ≡ getD head 0 0 → count ≡ getD head 1 0
+    → o₁ ≡ set (set d k first) (k + 1) op → o₂ ≡ set (set o₁ (k + 2) size) (k + 2 + 1) count → o₃ ≡ paste o₂ (k + 4) (pairs row s (at + 1)) 16
+    → o₃ ≡ paste d k (recordOf row s at) 20
+record-written row s head d o₁ o₂ o₃ k at first op size count hr hk hh ef eo es ec e₁ e₂ e₃ =
+    let r = recordOf row s at in
+    let l : length r ≡ 20 = length-record row s at hr in
+    let f₁ : o₁ ≡ paste d k r 2 = e₁ ∙ two-more d d r k 0 k first op (omega arith) (omega arith) (omega arith) (paste-zero d k r) ef eo in
+    let f₂ : o₂ ≡ paste d k r 4 =
+    e₂ ∙ two-more d o₁ r k 2 (k + 2) size count (omega arith) (omega arith) refl f₁ (es ∙ ap (λ (h : List ℕ). getD h 0 0) hh) (ec ∙ ap (λ (h : List ℕ). getD h 1 0) hh) in
+    e₃ ∙ (rw f₂ (rest-more d r k 4 16 (omega arith) (omega arith)))

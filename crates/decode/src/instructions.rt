@@ -10,6 +10,7 @@ ghost use Rattle.spec_body.specs.Function.{inArea};
 ghost use Rattle.spec_body.specs.Operation as operation;
 ghost use Rattle.spec_body.specs.Operation.{report, exitOf, decodeOutcome};
 ghost use Rattle.decode.specs.Bodies.{storedAt, bodyOf, decodeReport};
+ghost use Rattle.decode.specs.Tables.{CodeRows, headRow};
 use sheet::opcode::Sheet;
 
 // A body's records, counted, or the instruction where it is refused.
@@ -20,13 +21,20 @@ pub enum Body {
 }
 
 // Writes the record of an instruction as the n-th, where there is room for it.
-fn store_record(out: &mut [u64], n: usize, row: [u8; 8], s: &[u8], at: usize)
-    requires { ⌜ at + lengthOf row ≤ length (now s) ⌝ }
+fn store_record(
+    out: &mut [u64],
+    n: usize,
+    row: [u8; 8],
+    head: [u8; 2],
+    codes: &[[u8; 2]; 256],
+    s: &[u8],
+    at: usize,
+)
+    requires { ⌜ (head ≡ headRow row) × CodeRows (now codes) × (at + lengthOf row ≤ length (now s)) ⌝ }
     ensures { λ _. ⌜ (now (out .exit) ≡ storedAt (now (out .entry)) n (recordOf row (now (s .entry)) at)) × (length row ≡ 8) ⌝ }
 {
     if n < out.len() / 20 {
-        let r = crate::record::record_at(row, s, at);
-        crate::words::put_record(out, n * 20, r);
+        crate::record::put_record(out, n * 20, row, head, codes, s, at);
     }
 }
 
@@ -35,6 +43,8 @@ fn decode_body(types: &[[u8; 8]; 256], last: usize, s: &[u8], out: &mut [u64]) -
     ensures { λ r. ⌜ r ≡ bodyOf (decodeBody (now (types .entry)) last (now (s .entry))) ⌝ }
     ensures { λ _. ⌜ ((rs : List (List ℕ)) → decodeBody (now (types .entry)) last (now (s .entry)) ≡ decoded rs → (length (join rs) ≡ 20 * length rs) × (20 * length rs ≤ length (now (out .entry)) → now (out .exit) ≡ join rs ++ drop (20 * length rs) (now (out .entry)))) ⌝ }
 {
+    let codes = crate::tables::code_rows();
+    let heads = crate::tables::head_rows(types, last);
     let mut n: usize = 0;
     let mut at: usize = 0;
     while at < s.len() {
@@ -43,11 +53,12 @@ fn decode_body(types: &[[u8; 8]; 256], last: usize, s: &[u8], out: &mut [u64]) -
             return Body::Beyond(at);
         }
         let row = types[op];
-        let size = crate::record::instruction_length(row);
+        let head = heads[op];
+        let size = crate::tables::number(head[0]);
         if s.len() - at < size {
             return Body::Cut(at);
         }
-        store_record(out, n, row, s, at);
+        store_record(out, n, row, head, &codes, s, at);
         at += size;
         n += 1;
     }

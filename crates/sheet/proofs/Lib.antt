@@ -1,4 +1,5 @@
 pub mod AnswerLaws
+pub mod MarkLaws
 pub mod TypesLoop
 pub mod LineLaws
 pub mod StoreLaws

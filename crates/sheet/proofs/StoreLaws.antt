@@ -1,63 +1,72 @@
 -- An opcode line that is stored, or refused. Assumes nothing.
 use mathlib.Core.Path.{_≡_, refl, ap, sym, _∙_}
-use mathlib.Core.Bool.{true, false}
+use mathlib.Core.Bool.{Bool, true, false}
 use mathlib.Core.List.{List}
-use Prim.Native.Nat.{ℕ, _<_}
+use Prim.Native.Nat.{ℕ, _≤_, _<_}
 use native.Mathlib.Omega.{arith}
-use lib.ListN.{getD, set}
-use Rattle.lists.specs.Scan.{part}
-use Rattle.spec_sheet.specs.Line.{Op, LineRead, lineAt, nameOf, typeRow, infoRow}
+use lib.ListN.{take, set}
+use Rattle.lists.specs.Choice.{pick}
+use Rattle.spec_sheet.specs.Line.{LineRead, lineAt, nameOf, infoRow}
 use Rattle.spec_sheet.specs.Line.LineRead.{line, noLine}
-use Rattle.spec_sheet.specs.Sheet.{mayFollow, accepted}
+use Rattle.spec_sheet.specs.Sheet.{findName, isMissing, mayFollow, accepted}
+use Rattle.spec_sheet.proofs.NameLaws.{follow-by-name}
 use Rattle.spec_sheet.proofs.OpLaws.{line-good}
 use Rattle.sheet.specs.Lines.{lineOf}
+use Rattle.sheet.specs.Marks.{nameIn}
 use Rattle.sheet.specs.Sheets.{turnOf, typesStored, infosStored}
 use Rattle.sheet.specs.declared.line.Line.{Line}
+use Rattle.sheet.specs.declared.scan.Step.{Step}
 use Rattle.sheet.specs.declared.scan.Step.the-variants.{Next, Off}
 use Rattle.sheet.proofs.LineLaws.{LineIs, was-line, was-no-line}
 
 -- what a line leaves: the answer, and both tables
-pub record Stored (x : LineRead) (l : Line) (types infos : List (List ℕ)) : Type 0 where
-  pub answer : Next (l .code) (l .next) ≡ turnOf x
-  pub type-rows : set types (l .code) (l .row) ≡ typesStored x types
-  pub info-rows : set infos (l .code) (l .info) ≡ infosStored x infos
-
-module _ (s : List ℕ) (least : ℕ) (types infos : List (List ℕ)) (l : Line) where
-  -- the name as the line's row tells it
-  abbrev pub nameIn : List ℕ
-  nameIn = part s (getD (l .info) 2 0) (getD (l .info) 3 0)
-
-  same-test : (x : LineRead) (i : LineIs x l) → mayFollow s least infos (l .code) nameIn ≡ mayFollow s least infos (i .op .code) (nameOf s (i .op))
-  unfolding infoRow
-  same-test x i = rw (i .code, i .info)
-
-  taken : (x : LineRead) (i : LineIs x l) → mayFollow s least infos (l .code) nameIn ≡ true → accepted s least infos x ≡ line (i .op) (l .next)
-  unfolding accepted
-  taken x i h = ap (accepted s least infos) (i .is-line) ∙ rw (sym (same-test x i) ∙ h)
-
-  as-stored : (y : LineRead) (o : Op) → y ≡ line o (l .next) → l .code ≡ o .code → l .row ≡ typeRow o → l .info ≡ infoRow o → Stored y l types infos
-  unfolding turnOf typesStored infosStored
-  as-stored y o e c r i = rw e record { answer = rw c; type-rows = rw (c, r); info-rows = rw (c, i) }
-
-  pub stored : (x : LineRead) → l ≡ lineOf x → l .ok ≡ true → mayFollow s least infos (l .code) nameIn ≡ true → Stored (accepted s least infos x) l types infos
-  stored x e f h =
-      let i = was-line x l e f in
-      as-stored (accepted s least infos x) (i .op) (taken x i h) (i .code) (i .row) (i .info)
-
-  pub refused : (x : LineRead) → l ≡ lineOf x → l .ok ≡ true → mayFollow s least infos (l .code) nameIn ≡ false → accepted s least infos x ≡ noLine
-  unfolding accepted
-  refused x e f h =
-      let i = was-line x l e f in
-      ap (accepted s least infos) (i .is-line) ∙ rw (sym (same-test x i) ∙ h)
-
-  pub not-read : (x : LineRead) → l ≡ lineOf x → l .ok ≡ false → accepted s least infos x ≡ noLine
-  unfolding accepted
-  not-read x e f = rw (was-no-line x l e f)
+pub record Stored (x : LineRead) (r : Step) (types types′ infos infos′ : List (List ℕ)) : Type 0 where
+  pub answer : r ≡ turnOf x
+  pub type-rows : types′ ≡ typesStored x types
+  pub info-rows : infos′ ≡ infosStored x infos
 
 -- a line that was refused leaves everything as it was
-pub nothing-stored : (x : LineRead) (types infos : List (List ℕ)) → x ≡ noLine → (Off ≡ turnOf x) × (types ≡ typesStored x types) × (infos ≡ infosStored x infos)
+nothing-stored : (x : LineRead) (types types′ infos infos′ : List (List ℕ)) → x ≡ noLine → types′ ≡ types → infos′ ≡ infos → Stored x Off types types′ infos infos′
 unfolding turnOf typesStored infosStored
-nothing-stored x types infos e = rw e (refl, refl, refl)
+nothing-stored x types types′ infos infos′ e t i = rw e record { answer = refl; type-rows = t; info-rows = i }
+
+module _ (s : List ℕ) (least : ℕ) (infos : List (List ℕ)) (l : Line) (x : LineRead) (w : LineIs x l) where
+  same-test : (r : Bool) → r ≡ mayFollow s least infos (l .code) (nameIn s (l .info)) → mayFollow s least infos (w .op .code) (nameOf s (w .op)) ≡ r
+  unfolding infoRow
+  same-test r m = sym (m ∙ rw (w .code, w .info))
+
+  taken : (r : Bool) → r ≡ mayFollow s least infos (l .code) (nameIn s (l .info)) → accepted s least infos x ≡ pick r (line (w .op) (l .next)) noLine
+  unfolding accepted
+  taken r m = ap (accepted s least infos) (w .is-line) ∙ rw (same-test r m)
+
+  as-stored : (y : LineRead) (types types′ infos′ : List (List ℕ)) → y ≡ line (w .op) (l .next) → types′ ≡ set types (l .code) (l .row)
+      → infos′ ≡ set infos (l .code) (l .info) → Stored y (Next (l .code) (l .next)) types types′ infos infos′
+  unfolding turnOf typesStored infosStored
+  as-stored y types types′ infos′ e t i =
+      rw e record { answer = rw (w .code); type-rows = t ∙ rw (w .code, w .row); info-rows = i ∙ rw (w .code, w .info) }
+
+module _ (s : List ℕ) (least : ℕ) (types infos : List (List ℕ)) (l : Line) (x : LineRead) (e : l ≡ lineOf x) where
+  pub not-read : l .ok ≡ false → Stored (accepted s least infos x) Off types types infos infos
+  unfolding accepted
+  not-read f = nothing-stored _ types types infos infos (rw (was-no-line x l e f)) refl refl
+
+  -- a line that was read, where it may follow, and where it may not
+  module _ (f : l .ok ≡ true) (r : Bool) (m : r ≡ mayFollow s least infos (l .code) (nameIn s (l .info))) (types′ infos′ : List (List ℕ))
+      (t : types′ ≡ pick r (set types (l .code) (l .row)) types) (i : infos′ ≡ pick r (set infos (l .code) (l .info)) infos) where
+    pub stored : r ≡ true → Stored (accepted s least infos x) (Next (l .code) (l .next)) types types′ infos infos′
+    stored h =
+        let w = was-line x l e f in
+        as-stored s least infos l x w (accepted s least infos x) types types′ infos′ (taken s least infos l x w r m ∙ rw h) (t ∙ rw h) (i ∙ rw h)
+
+    pub refused : r ≡ false → Stored (accepted s least infos x) Off types types′ infos infos′
+    refused h =
+        let w = was-line x l e f in
+        nothing-stored (accepted s least infos x) types types′ infos infos′ (taken s least infos l x w r m ∙ rw h) (t ∙ rw h) (i ∙ rw h)
+
+-- an opcode from the least on may follow where its name is new
+pub follows : (s : List ℕ) (least : ℕ) (rows : List (List ℕ)) (code : ℕ) (name own : List ℕ) (r f : Bool) → least ≤ code → name ≡ own
+    → r ≡ isMissing (findName s name 0 (take least rows)) → r ≡ f → f ≡ mayFollow s least rows code own
+follows s least rows code name own r f h n e g = sym g ∙ e ∙ rw n (sym (follow-by-name s least rows code own h))
 
 -- the opcode of a line that was read is a row of the tables
 pub row-inside : (s : List ℕ) (at : ℕ) (l : Line) → l ≡ lineOf (lineAt s at) → l .ok ≡ true → l .code < 256

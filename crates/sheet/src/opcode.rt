@@ -2,15 +2,17 @@
 // has a row with its operand count, its jump mark, and the start and length of its name in the sheet's text. A length of
 // 0 marks a gap, "<invalid>" in the Rust.
 ghost use mathlib.Core.Path.{_≡_};
-ghost use Prim.Native.Nat.{ℕ, _≤_};
-ghost use lib.ListN.{take};
-ghost use mathlib.Core.Bool.{Bool};
+ghost use Prim.Native.Nat.{ℕ, _≤_, _<_};
+ghost use lib.ListN.{take, set};
+ghost use mathlib.Core.Bool.{Bool, false};
 ghost use mathlib.Core.List.{List, []};
-ghost use Rattle.lists.specs.Scan.{part};
+ghost use Rattle.lists.specs.Choice.{pick};
+ghost use Rattle.lists.specs.Found.Found.{missing};
 ghost use Rattle.slices.specs.Answers.{foundOf};
 ghost use Rattle.spec_sheet.specs.Line.{Op, lineAt};
-ghost use Rattle.spec_sheet.specs.Sheet.{hasName, findName, mayFollow, accepted, opsFrom, noTypeRows, noInfoRows, typeRows, infoRows, sheetAt, sheetOf};
+ghost use Rattle.spec_sheet.specs.Sheet.{hasName, findName, isMissing, mayFollow, accepted, opsFrom, noTypeRows, noInfoRows, typeRows, infoRows, sheetAt, sheetOf};
 ghost use Rattle.spec_sheet.specs.Sheet.OpsRead.{allRead};
+ghost use Rattle.sheet.specs.Marks.{nameIn, Marked};
 ghost use Rattle.sheet.specs.Sheets.{turnOf, typesStored, infosStored, opsOf, sheetAnswer, typesIn, infosIn};
 use crate::scan::Step;
 use slices::search::Found;
@@ -44,27 +46,52 @@ pub fn find_name(s: &[u8], name: &[u8], ops: &[[usize; 4]; 256], bound: usize) -
     Found::Missing
 }
 
-// Whether an opcode may follow those below `least`.
-fn may_follow(
+// Whether no opcode below `least` has this name. Where a name's mark is not set there is none; only where it is the
+// opcodes are searched.
+fn is_new(s: &[u8], name: &[u8], ops: &[[usize; 4]; 256], least: usize, seen: bool) -> bool
+    requires { ⌜ (least ≤ 256) × (seen ≡ false → findName (now s) (now name) 0 (take least (now ops)) ≡ missing) ⌝ }
+    ensures { λ r. ⌜ r ≡ isMissing (findName (now (s .entry)) (now (name .entry)) 0 (take least (now (ops .entry)))) ⌝ }
+{
+    if seen {
+        let f = find_name(s, name, ops, least);
+        return match f {
+            Found::At(_) => false,
+            Found::Missing => true,
+        };
+    }
+    true
+}
+
+// Stores the two rows of an opcode, where it may follow those below `least`.
+fn store_op(
     s: &[u8],
-    ops: &[[usize; 4]; 256],
     least: usize,
     code: usize,
-    start: usize,
-    size: usize,
+    row: [u8; 8],
+    info: [usize; 4],
+    types: &mut [[u8; 8]; 256],
+    ops: &mut [[usize; 4]; 256],
+    marks: &mut [u64; 64],
 ) -> bool
-    requires { ⌜ least ≤ 256 ⌝ }
-    ensures { λ r. ⌜ r ≡ mayFollow (now (s .entry)) least (now (ops .entry)) code (part (now (s .entry)) start size) ⌝ }
+    requires { ⌜ (least ≤ 256) × (code < 256) × Marked (now s) (now marks) (now ops) ⌝ }
+    ensures { λ r. ⌜ r ≡ mayFollow (now (s .entry)) least (now (ops .entry)) code (nameIn (now (s .entry)) info) ⌝ }
+    ensures { λ r. ⌜ now (types .exit) ≡ pick r (set (now (types .entry)) code row) (now (types .entry)) ⌝ }
+    ensures { λ r. ⌜ now (ops .exit) ≡ pick r (set (now (ops .entry)) code info) (now (ops .entry)) ⌝ }
+    ensures { λ _. ⌜ Marked (now (s .entry)) (now (marks .exit)) (now (ops .exit)) ⌝ }
 {
     if code < least {
         return false;
     }
-    let name = slices::part::part_of(s, start, size);
-    let f = find_name(s, name, ops, least);
-    match f {
-        Found::At(_) => false,
-        Found::Missing => true,
+    let name = slices::part::part_of(s, info[2], info[3]);
+    let h = crate::marks::name_hash(name);
+    let seen = crate::marks::is_marked(marks, h);
+    if is_new(s, name, ops, least, seen) {
+        types[code] = row;
+        ops[code] = info;
+        crate::marks::set_mark(marks, h);
+        return true;
     }
+    false
 }
 
 // Reads one opcode line and stores its rows, where it may follow those below `least`: the opcode and the place behind it.
@@ -74,20 +101,20 @@ fn store_line(
     least: usize,
     types: &mut [[u8; 8]; 256],
     ops: &mut [[usize; 4]; 256],
+    marks: &mut [u64; 64],
 ) -> Step
-    requires { ⌜ least ≤ 256 ⌝ }
+    requires { ⌜ (least ≤ 256) × Marked (now s) (now marks) (now ops) ⌝ }
     ensures { λ r. ⌜ r ≡ turnOf (accepted (now (s .entry)) least (now (ops .entry)) (lineAt (now (s .entry)) at)) ⌝ }
     ensures { λ _. ⌜ now (types .exit) ≡ typesStored (accepted (now (s .entry)) least (now (ops .entry)) (lineAt (now (s .entry)) at)) (now (types .entry)) ⌝ }
     ensures { λ _. ⌜ now (ops .exit) ≡ infosStored (accepted (now (s .entry)) least (now (ops .entry)) (lineAt (now (s .entry)) at)) (now (ops .entry)) ⌝ }
+    ensures { λ _. ⌜ Marked (now (s .entry)) (now (marks .exit)) (now (ops .exit)) ⌝ }
 {
     let l = crate::line::line_at(s, at);
     if l.ok {
         let code = l.code;
         let info = l.info;
         let row = l.row;
-        if may_follow(s, ops, least, code, info[2], info[3]) {
-            types[code] = row;
-            ops[code] = info;
+        if store_op(s, least, code, row, info, types, ops, marks) {
             return Step::Next(code as u64, l.next);
         }
         return Step::Off;
@@ -113,11 +140,12 @@ fn read_ops(
     ensures { λ r. ⌜ r ≡ opsOf (opsFrom count (now (s .entry)) from 0 []) ⌝ }
     ensures { λ _. ⌜ ((os : List Op) (b : ℕ) → opsFrom count (now (s .entry)) from 0 [] ≡ allRead os b → (now (types .exit) ≡ typeRows os) × (now (ops .exit) ≡ infoRows os)) ⌝ }
 {
+    let mut marks = [0u64; 64];
     let mut at = from;
     let mut least: usize = 0;
     let mut i: usize = 0;
     while i < count {
-        let l = store_line(s, at, least, types, ops);
+        let l = store_line(s, at, least, types, ops, &mut marks);
         let Step::Next(code, b) = l else {
             return Ops::FaultAfter(i);
         };

@@ -42,16 +42,12 @@ module _ (s name : List ℕ) where
         (λ h. let g : length rows ≤ k + 1 = omega arith in rw (drop-of-length-le rows h, drop-of-length-le rows g))
         (λ h. rw (add-one, drop-cons rows k [] h) (find-cons-next k _ (drop (suc k) rows) e))
 
--- a number below the least, a name that is taken, and one that is not
+-- a number below the least, and one from there on: the name decides
 module _ (s : List ℕ) (least : ℕ) (rows : List (List ℕ)) (code : ℕ) (name : List ℕ) where
   pub follow-low : code < least → mayFollow s least rows code name ≡ false
   unfolding mayFollow
   follow-low h = rw (lt-leb least code h, mayFollow)
 
-  pub follow-taken : (k : ℕ) → least ≤ code → findName s name 0 (take least rows) ≡ found k → mayFollow s least rows code name ≡ false
-  unfolding mayFollow isMissing
-  follow-taken k h e = rw (le-leb least code h, e)
-
-  pub follow-new : least ≤ code → findName s name 0 (take least rows) ≡ missing → mayFollow s least rows code name ≡ true
-  unfolding mayFollow isMissing
-  follow-new h e = rw (le-leb least code h, e)
+  pub follow-by-name : least ≤ code → mayFollow s least rows code name ≡ isMissing (findName s name 0 (take least rows))
+  unfolding mayFollow
+  follow-by-name h = rw (le-leb least code h)

@@ -1,4 +1,5 @@
 pub mod AnswerLaws
+pub mod KeyedLaws
 pub mod MarkLaws
 pub mod TypesLoop
 pub mod LineLaws

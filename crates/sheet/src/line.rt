@@ -1,6 +1,8 @@
 // A line of a sheet that says one opcode: `op=18 name=Jmp jump=1 types=Addr8`.
 ghost use mathlib.Core.Path.{_≡_};
-ghost use Rattle.spec_sheet.specs.Line.{typesFrom, typesAt, headAt, lineTypes, lineAt};
+ghost use Rattle.spec_sheet.specs.Line.{typesFrom, typesAt, headAt, jumpAt, lineTypes, lineAt};
+ghost use Rattle.spec_sheet.specs.Scan.{keyedAt};
+ghost use Rattle.lists.specs.Text.{text};
 ghost use Rattle.sheet.specs.Answers.{stepOf};
 ghost use Rattle.sheet.specs.Lines.{typesOf, headOf, lineOf};
 ghost use Rattle.spec_sheet.specs.Line.TypesRead.{noTypes};
@@ -75,10 +77,29 @@ pub enum Head {
     Off,
 }
 
+// The number of an opcode line between its texts. `keyed_at` would do; here both texts are constants, which is faster.
+fn op_at(s: &[u8], at: usize) -> Step
+    ensures { λ r. ⌜ r ≡ stepOf (keyedAt (text "op=") 255 (text " name=") (now (s .entry)) at) ⌝ }
+{
+    let k = crate::scan::literal_at(s, at, b"op=");
+    let Step::Next(_, a) = k else {
+        return k;
+    };
+    let v = crate::scan::number_at(s, a, 255);
+    let Step::Next(value, b) = v else {
+        return v;
+    };
+    let e = crate::scan::literal_at(s, b, b" name=");
+    let Step::Next(_, c) = e else {
+        return e;
+    };
+    Step::Next(value, c)
+}
+
 fn head_at(s: &[u8], at: usize) -> Head
     ensures { λ r. ⌜ r ≡ headOf (headAt (now (s .entry)) at) ⌝ }
 {
-    let k = crate::scan::keyed_at(s, at, b"op=", 255, b" name=");
+    let k = op_at(s, at);
     let Step::Next(code, start) = k else {
         return Head::Off;
     };
@@ -134,6 +155,19 @@ fn line_types(s: &[u8], code: usize, start: usize, size: usize, jump: usize, at:
     no_line()
 }
 
+// The jump mark between its texts: first the two forms that there are, then any other text, which is malformed.
+fn jump_at(s: &[u8], at: usize) -> Step
+    ensures { λ r. ⌜ r ≡ stepOf (jumpAt (now (s .entry)) at) ⌝ }
+{
+    if slices::compare::opens_at(s, at, b" jump=0 types=") {
+        return Step::Next(0, at + 14);
+    }
+    if slices::compare::opens_at(s, at, b" jump=1 types=") {
+        return Step::Next(1, at + 14);
+    }
+    crate::scan::keyed_at(s, at, b" jump=", 1, b" types=")
+}
+
 // A whole opcode line.
 pub fn line_at(s: &[u8], at: usize) -> Line
     ensures { λ r. ⌜ r ≡ lineOf (lineAt (now (s .entry)) at) ⌝ }
@@ -142,7 +176,7 @@ pub fn line_at(s: &[u8], at: usize) -> Line
     let Head::Is(code, start, size, a) = h else {
         return no_line();
     };
-    let j = crate::scan::keyed_at(s, a, b" jump=", 1, b" types=");
+    let j = jump_at(s, a);
     let Step::Next(jump, b) = j else {
         return no_line();
     };

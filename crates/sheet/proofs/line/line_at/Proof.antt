@@ -1,9 +1,8 @@
-use Rattle.sheet.proofs.LineLaws.{was-head, no-head}
-use Rattle.sheet.proofs.AnswerLaws.{was-next, was-off}
-use Rattle.spec_sheet.specs.Line.{lineAt, lineHead}
-use Rattle.spec_sheet.specs.Scan.{after}
-use Rattle.lists.specs.Text.{text}
 use mathlib.Core.Path.{sym, _∙_}
+use Rattle.spec_sheet.specs.Scan.{after}
+use Rattle.spec_sheet.specs.Line.{lineAt, lineHead}
+use Rattle.sheet.proofs.AnswerLaws.{was-next, was-off}
+use Rattle.sheet.proofs.LineLaws.{was-head, no-head}
 use borrow.Author.Needs.{needs}
 use Rattle.sheet.proofs.line.line_at.Statement.{statement}
 use Rattle.sheet.proofs.line.line_at.Tie as tie
@@ -21,17 +20,11 @@ no-line-requires : tie.Need-no-line-requires
 no-line-requires c κs = search needs
 
 returns : tie.Need-returns
-unfolding lineAt lineHead
+unfolding lineAt lineHead after
 returns c = rw (no-head _ (sym (c .before .before .before .head-at .ensures) ∙ c .before .enum-told .given .1)) (c .no-line .ensures)
 
-slice-aggregate-keyed-at : tie.Need-slice-aggregate-keyed-at
-slice-aggregate-keyed-at c = search needs
-
-slice-aggregate-keyed-at-2 : tie.Need-slice-aggregate-keyed-at-2
-slice-aggregate-keyed-at-2 c = search needs
-
-keyed-at-requires : tie.Need-keyed-at-requires
-keyed-at-requires c κs = search needs
+jump-at-requires : tie.Need-jump-at-requires
+jump-at-requires c κs = search needs
 
 enum-known-j : tie.Need-enum-known-j
 enum-known-j c = search needs
@@ -43,15 +36,15 @@ no-line-requires-2 : tie.Need-no-line-requires-2
 no-line-requires-2 c κs = search needs
 
 returns-2 : tie.Need-returns-2
-unfolding lineAt lineHead after text
-returns-2 c = rw (was-head _ (sym (c .before .before .before .before .before .before .before .before .before .head-at .ensures) ∙ c .before .before .before .before .before .before .before .h .given .1), was-off _ (sym (c .before .before .before .keyed-at .ensures) ∙ c .before .enum-told2 .given .1)) (c .no-line2 .ensures)
+unfolding lineAt lineHead after
+returns-2 c = rw (was-head _ (sym (c .before .before .before .before .before .before .before .head-at .ensures) ∙ c .before .before .before .before .before .h .given .1), was-off _ (sym (c .before .before .before .jump-at .ensures) ∙ c .before .enum-told2 .given .1)) (c .no-line2 .ensures)
 
 line-types-requires : tie.Need-line-types-requires
 line-types-requires c κs = search needs
 
 returns-3 : tie.Need-returns-3
-unfolding lineAt lineHead after text
-returns-3 c = rw (was-head _ (sym (c .before .before .before .before .before .before .before .before .before .before .head-at .ensures) ∙ c .before .before .before .before .before .before .before .before .h .given .1), was-next _ (sym (c .before .before .before .before .keyed-at .ensures) ∙ c .before .before .j .given .1)) (c .line-types .ensures)
+unfolding lineAt lineHead after
+returns-3 c = rw (was-head _ (sym (c .before .before .before .before .before .before .before .before .head-at .ensures) ∙ c .before .before .before .before .before .before .h .given .1), was-next _ (sym (c .before .before .before .before .jump-at .ensures) ∙ c .before .before .j .given .1)) (c .line-types .ensures)
 
 pub line-at-spec : {M : Type 1} → statement M
 line-at-spec =
@@ -62,9 +55,7 @@ line-at-spec =
     enum-told
     no-line-requires
     returns
-    slice-aggregate-keyed-at
-    slice-aggregate-keyed-at-2
-    keyed-at-requires
+    jump-at-requires
     enum-known-j
     enum-told-2
     no-line-requires-2

@@ -1,6 +1,4 @@
-use Rattle.sheet.proofs.AnswerLaws.{was-next, was-off, next-is, off-is}
-use Rattle.spec_sheet.specs.Scan.{keyedAt, after}
-use mathlib.Core.Path.{sym, _∙_}
+use Rattle.sheet.proofs.KeyedLaws.{no-key, no-number, no-tail, keyed-whole}
 use borrow.Author.Needs.{needs}
 use Rattle.sheet.proofs.scan.keyed_at.Statement.{statement}
 use Rattle.sheet.proofs.scan.keyed_at.Tie as tie
@@ -15,10 +13,7 @@ enum-told : tie.Need-enum-told
 enum-told c = search needs
 
 returns : tie.Need-returns
-unfolding keyedAt after
-returns c =
-    let k = c .before .before in
-    rw (was-off _ (sym (k .literal-at .ensures) ∙ c .enum-told .given .1)) (c .enum-told .given .1 ∙ off-is)
+returns c = no-key _ _ _ _ _ _ (c .before .before .literal-at .ensures) (c .enum-told .given .1)
 
 number-at-requires : tie.Need-number-at-requires
 number-at-requires c κs = search needs
@@ -30,11 +25,10 @@ enum-told-2 : tie.Need-enum-told-2
 enum-told-2 c = search needs
 
 returns-2 : tie.Need-returns-2
-unfolding keyedAt after
 returns-2 c =
     let v = c .before .before in
     let k = v .before .before .before .before in
-    rw (was-next _ (sym (k .literal-at .ensures) ∙ v .before .before .k .given .1), was-off _ (sym (v .number-at .ensures) ∙ c .enum-told2 .given .1)) (c .enum-told2 .given .1 ∙ off-is)
+    no-number _ _ _ _ _ _ (k .literal-at .ensures) (v .before .before .k .given .1) _ (v .number-at .ensures) (c .enum-told2 .given .1)
 
 literal-at-requires-2 : tie.Need-literal-at-requires-2
 literal-at-requires-2 c κs = search needs
@@ -46,20 +40,18 @@ enum-told-3 : tie.Need-enum-told-3
 enum-told-3 c = search needs
 
 returns-3 : tie.Need-returns-3
-unfolding keyedAt after
 returns-3 c =
     let e = c .before .before in
     let v = e .before .before .before .before in
     let k = v .before .before .before .before in
-    rw (was-next _ (sym (k .literal-at .ensures) ∙ v .before .before .k .given .1), was-next _ (sym (v .number-at .ensures) ∙ e .before .before .v .given .1), was-off _ (sym (e .literal-at2 .ensures) ∙ c .enum-told3 .given .1)) (c .enum-told3 .given .1 ∙ off-is)
+    no-tail _ _ _ _ _ _ (k .literal-at .ensures) (v .before .before .k .given .1) _ (v .number-at .ensures) (e .before .before .v .given .1) _ (e .literal-at2 .ensures) (c .enum-told3 .given .1)
 
 returns-4 : tie.Need-returns-4
-unfolding keyedAt after
 returns-4 c =
     let e = c .before .before .before in
     let v = e .before .before .before .before in
     let k = v .before .before .before .before in
-    rw (was-next _ (sym (k .literal-at .ensures) ∙ v .before .before .k .given .1), was-next _ (sym (v .number-at .ensures) ∙ e .before .before .v .given .1), was-next _ (sym (e .literal-at2 .ensures) ∙ c .before .e .given .1)) (next-is _ _)
+    keyed-whole _ _ _ _ _ _ (k .literal-at .ensures) (v .before .before .k .given .1) _ (v .number-at .ensures) (e .before .before .v .given .1) _ (e .literal-at2 .ensures) (c .before .e .given .1)
 
 pub keyed-at-spec : {M : Type 1} → statement M
 keyed-at-spec =

@@ -1,12 +1,12 @@
 // Readings at a place of a text: each answers a value and the place behind it, or that the text is not of the form.
 ghost use mathlib.Core.Path.{_≡_};
-ghost use Prim.Native.Nat.{_-_, _^_, _≤_, _<_};
+ghost use Prim.Native.Nat.{_+_, _-_, _^_, _≤_, _<_};
 ghost use lib.ListN.{length, drop, getD};
 ghost use Rattle.lists.specs.Scan.{run};
 ghost use Rattle.spec_sheet.specs.Scan.{literalAt, isUpper, isNameByte, numberAt, keyedAt, mayBeName, nameAt, typeAt};
 ghost use Rattle.sheet.specs.Answers.{stepOf, isWordByte};
 ghost use Rattle.lists.specs.Choice.{both};
-ghost use lib.Dec.{eqb, ltb};
+ghost use lib.Dec.{eqb, ltb, leb};
 use numbers::parse::Number;
 use slices::compare::is_within;
 
@@ -150,15 +150,32 @@ pub fn name_at(s: &[u8], at: usize) -> Step
     Step::Off
 }
 
-// The name of an operand type: its code.
+// Whether four bytes are left.
+fn has_four(s: &[u8], at: usize) -> bool
+    ensures { λ r. ⌜ r ≡ leb (at + 4) (length (now (s .entry))) ⌝ }
+{
+    if s.len() < at {
+        return false;
+    }
+    if s.len() - at < 4 {
+        return false;
+    }
+    true
+}
+
+// The name of an operand type: its code. Each name has four bytes or more, and comparing them tells whether they are
+// letters and digits, so the word is counted from the fifth on.
 pub fn type_at(s: &[u8], at: usize) -> Step
     ensures { λ r. ⌜ r ≡ stepOf (typeAt (now (s .entry)) at) ⌝ }
 {
-    let k = count_word(s, at, true);
-    let word = slices::part::part_of(s, at, k);
-    let code = crate::types::type_code(word);
-    if code == 0 {
-        return Step::Off;
+    if has_four(s, at) {
+        let k = 4 + count_word(s, at + 4, true);
+        let end = at + k;
+        let code = crate::types::type_code(&s[at..end]);
+        if code == 0 {
+            return Step::Off;
+        }
+        return Step::Next(code as u64, end);
     }
-    Step::Next(code as u64, at + k)
+    Step::Off
 }

@@ -9,3 +9,4 @@ pub mod TakenLaws
 pub mod RowLaws
 pub mod OwnNameLaws
 pub mod SheetTrials
+pub mod TypeWordLaws

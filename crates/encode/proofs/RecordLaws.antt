@@ -4,16 +4,20 @@ use mathlib.Core.Bool.{true, false}
 use mathlib.Core.List.{List, [], _∷_}
 use Prim.Native.Nat.{ℕ, _+_, _≤_, _<_}
 use native.Mathlib.Omega.{arith}
-use lib.ListN.{getD}
-use borrow.Author.Tests.{eq-eqb, ne-eqb, lt-ltb, le-ltb}
+use lib.ListN.{length, getD}
+use borrow.Author.Tests.{eq-eqb, ne-eqb, lt-ltb, le-ltb, leb-true}
 use Rattle.lists.specs.Write.{Put}
 use Rattle.lists.proofs.Writes.{_then_}
-use Rattle.lists.proofs.Parts.{part-at}
+use Rattle.lists.proofs.Tests.{both-left}
+use Rattle.lists.proofs.Parts.{part-at, part-length}
 use Rattle.spec_body.specs.Record.{countOf}
 use Rattle.spec_body.specs.Encode.{Encoded, goodShape, encodeOperands, withOperands, encodeRecord}
-use Rattle.encode.specs.Encoding.{recordAt, pairsAt, Operanded, Turn, encodeReport}
+use Rattle.encode.specs.Encoding.{recordAt, pairsAt, PlainPut, Operanded, Turn, encodeReport}
+use Rattle.encode.specs.Plain.{plainRecord}
 use Rattle.encode.specs.Encoding.Operanded.{whole, misfits}
 use Rattle.encode.specs.Encoding.Turn.{went, stopped}
+use Rattle.encode.proofs.AheadLaws.{not-ahead, more-ahead}
+use Rattle.encode.proofs.PlainRecords.{plain-encoded}
 use Rattle.encode.specs.declared.encode.EncodeAnswer.{EncodeAnswer}
 use Rattle.encode.specs.declared.encode.EncodeAnswer.the-variants.{Done, Shape, Beyond, Count, Misfit}
 use Rattle.encode.specs.declared.encode.Wrote.{Wrote}
@@ -21,7 +25,7 @@ use Rattle.encode.specs.declared.encode.Wrote.the-variants as wrote
 
 module _ (types : List (List ℕ)) (last i at : ℕ) (words out out′ : List ℕ) («from» : ℕ) where
   abbrev this : EncodeAnswer → Type 0
-  this r = Turn (encodeRecord types last i (recordAt words at)) out «from» out′ r
+  this r = Turn (encodeRecord types last i (recordAt words at)) out «from» 0 out′ r
 
   pub shape-bad : goodShape (recordAt words at) ≡ false → this (Shape i)
   unfolding encodeRecord encodeReport
@@ -59,7 +63,7 @@ module _ (types : List (List ℕ)) (last i at : ℕ) (words out out′ : List �
               go : Operanded (encodeOperands row (pairsAt words at) 1) o k out′ w → this (Done n)
               go (whole bs m x y t) =
                   let z : m ≡ n = cc (sym y ∙ q) in
-                  went (getD words (at + 1) 0 ∷ bs) n (λ rest. counted rest ∙ rw x) refl (p then (rw z at t))
+                  went (getD words (at + 1) 0) bs n (λ rest. counted rest ∙ rw x) refl (not-ahead (p then (rw z at t)))
               go (misfits m x y) = absurd (let z : _≡_ {A = ℕ} 0 1 = cc (sym y ∙ q) in omega arith)
 
           pub operands-misfit : (n : ℕ) → w ≡ wrote.Misfit n → this (Misfit i n)
@@ -71,3 +75,19 @@ module _ (types : List (List ℕ)) (last i at : ℕ) (words out out′ : List �
               go (misfits m x y) =
                   let z : m ≡ n = cc (sym y ∙ q) in
                   stopped 15 i n (omega arith) (λ rest. counted rest ∙ rw (x, z)) refl
+
+-- more bytes may be written ahead than are
+pub turn-more : {x : Encoded → Encoded} {out out′ : List ℕ} {at spare : ℕ} {r : EncodeAnswer} → Turn x out at 0 out′ r → Turn x out at spare out′ r
+turn-more (went b bs k e q p) = went b bs k e q (more-ahead (omega arith) p)
+turn-more (stopped n p q h e a) = stopped n p q h e a
+
+-- a plain record
+pub plain-known : (types : List (List ℕ)) (last at : ℕ) (words : List ℕ) → plainRecord types last (recordAt words at) ≡ true → getD words (at + 1) 0 ≤ last
+unfolding plainRecord
+plain-known types last at words e = rw (part-at words at 20 1 0 (omega arith)) at (leb-true (getD (recordAt words at) 1 0) last (both-left _ _ e))
+
+pub turn-plain : (types : List (List ℕ)) (last i at : ℕ) (words out out′ : List ℕ) («from» spare k : ℕ) → plainRecord types last (recordAt words at) ≡ true
+    → at + 20 ≤ length words → 8 ≤ spare → PlainPut types words at out «from» out′ k → Turn (encodeRecord types last i (recordAt words at)) out «from» spare out′ (Done k)
+turn-plain types last i at words out out′ «from» spare k e l m (p, h) =
+    let o = part-at words at 20 1 0 (omega arith) in
+    went _ _ k (λ rest. (rw o at (plain-encoded types last i (recordAt words at) rest e (rw o h) (part-length words at 20 l)))) refl (more-ahead m p)

@@ -7,13 +7,14 @@ use types.Run.{OneOf}
 use mathlib.Core.Logic.{_⊎_, ⊎-elim}
 use lib.ListN.{length, drop, length-drop}
 use borrow.Author.Tests.{eq-eqb, ne-eqb, lt-ltb, le-ltb}
-use Rattle.lists.specs.Write.{Put, top}
-use Rattle.lists.proofs.Writes.{_then_, wrote-none}
+use Rattle.lists.specs.Write.{top}
+use Rattle.lists.proofs.Writes.{wrote-none}
 use Rattle.lists.proofs.Tests.{by-eqb}
 use Rattle.spec_answers.specs.Report.{Report, refusal}
 use Rattle.spec_body.specs.Encode.{Encoded, appendTo, encodeRecord, encodeFrom, encodeRecords}
 use Rattle.spec_body.specs.Encode.Encoded.{encoded, refused}
-use Rattle.encode.specs.Encoding.{recordAt, Turn, Encoding, encodeReport}
+use Rattle.encode.specs.Encoding.{recordAt, Ahead, Turn, Encoding, encodeReport}
+use Rattle.encode.proofs.AheadLaws.{_and-then_, not-ahead, none-ahead, more-ahead}
 use Rattle.encode.specs.Encoding.Turn.{went, stopped}
 use Rattle.encode.specs.Encoding.Encoding.{all, refuses}
 use Rattle.encode.specs.declared.encode.EncodeAnswer.{EncodeAnswer}
@@ -67,19 +68,19 @@ module _ (types : List (List ℕ)) (last : ℕ) (words : List ℕ) where
 pub record Going (types : List (List ℕ)) (last : ℕ) (words out₀ out : List ℕ) (k i : ℕ) : Type 0 where
   pub seen : List ℕ
   pub few : i ≤ length words / 20
-  pub wrote : Put out₀ 0 seen out k
+  pub wrote : Ahead out₀ 0 seen (length words / 20 - i) out k
   pub left : encodeRecords types last words ≡ appendTo seen (encodeFrom (length words / 20 + 1 - i) types last words i)
 
 pub start : (types : List (List ℕ)) (last : ℕ) (words out : List ℕ) → length out ≤ top → Going types last words out out 0 0
 start types last words out h =
     let z : length words / 20 + 1 - 0 ≡ length words / 20 + 1 = omega arith in
-    record { seen = []; few = omega arith; wrote = wrote-none h (omega arith); left = rw z (sym (append-none _)) }
+    record { seen = []; few = omega arith; wrote = more-ahead (omega arith) (not-ahead (wrote-none h (omega arith))); left = rw z (sym (append-none _)) }
 
 module _ (types : List (List ℕ)) (last : ℕ) (words out₀ out : List ℕ) (k i : ℕ) (g : Going types last words out₀ out k i) where
   fuel : length words / 20 + 1 - i ≡ suc (length words / 20 - i)
   fuel = omega (arith, g .few)
 
-  module _ (h : i < length words / 20) (out′ : List ℕ) (r : EncodeAnswer) (t : Turn (encodeRecord types last i (recordAt words (20 * i))) out k out′ r) where
+  module _ (h : i < length words / 20) (spare : ℕ) (s : spare ≡ length words / 20 - i - 1) (out′ : List ℕ) (r : EncodeAnswer) (t : Turn (encodeRecord types last i (recordAt words (20 * i))) out k spare out′ r) where
     this : encodeFrom (length words / 20 + 1 - i) types last words i ≡ encodeRecord types last i (recordAt words (20 * i)) (encodeFrom (length words / 20 + 1 - (i + 1)) types last words (i + 1))
     this =
         let f : length words / 20 + 1 - (i + 1) ≡ length words / 20 - i = omega arith in
@@ -88,14 +89,14 @@ module _ (types : List (List ℕ)) (last : ℕ) (words out₀ out : List ℕ) (k
     pub turn : (n : ℕ) → r ≡ Done n → Going types last words out₀ out′ n (i + 1)
     turn n q = go t
       where
-        go : Turn (encodeRecord types last i (recordAt words (20 * i))) out k out′ r → Going types last words out₀ out′ n (i + 1)
-        go (went bs m x y p) =
+        go : Turn (encodeRecord types last i (recordAt words (20 * i))) out k spare out′ r → Going types last words out₀ out′ n (i + 1)
+        go (went b bs m x y p) =
             let z : m ≡ n = cc (sym y ∙ q) in
             record {
-              seen = g .seen ++ bs;
+              seen = g .seen ++ (b ∷ bs);
               few = omega arith;
-              wrote = g .wrote then (rw z at p);
-              left = g .left ∙ (rw (this, x (encodeFrom (length words / 20 + 1 - (i + 1)) types last words (i + 1))) (append-twice (g .seen) bs _));
+              wrote = more-ahead (omega arith) (g .wrote and-then (rw z at p, omega arith));
+              left = g .left ∙ (rw (this, x (encodeFrom (length words / 20 + 1 - (i + 1)) types last words (i + 1))) (append-twice (g .seen) (b ∷ bs) _));
             }
         go (stopped m a b l x y) = not-done r n m a b l y q
 
@@ -103,8 +104,8 @@ module _ (types : List (List ℕ)) (last : ℕ) (words out₀ out : List ℕ) (k
     unfolding appendTo
     stops q = go t
       where
-        go : Turn (encodeRecord types last i (recordAt words (20 * i))) out k out′ r → Encoding (encodeRecords types last words) out₀ out′ r
-        go (went bs m x y p) = absurd (q m y)
+        go : Turn (encodeRecord types last i (recordAt words (20 * i))) out k spare out′ r → Encoding (encodeRecords types last words) out₀ out′ r
+        go (went b bs m x y p) = absurd (q m y)
         go (stopped m a b l x y) = refuses m a b l (g .left ∙ (rw (this, x (encodeFrom (length words / 20 + 1 - (i + 1)) types last words (i + 1))))) y
 
   module _ (h : length words / 20 ≤ i) where
@@ -119,4 +120,4 @@ module _ (types : List (List ℕ)) (last : ℕ) (words out₀ out : List ℕ) (k
 
     pub ended : length words % 20 ≡ 0 → Encoding (encodeRecords types last words) out₀ out (Done k)
     unfolding appendTo
-    ended e = all (g .seen) k (g .left ∙ (rw (fuel, no-record types last words (length words / 20 - i) i (omega (arith, g .few))) (ap encoded (append-nil (g .seen))))) refl (g .wrote)
+    ended e = all (g .seen) k (g .left ∙ (rw (fuel, no-record types last words (length words / 20 - i) i (omega (arith, g .few))) (ap encoded (append-nil (g .seen))))) refl (none-ahead (more-ahead (omega arith) (g .wrote)))

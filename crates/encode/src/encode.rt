@@ -10,6 +10,7 @@ ghost use Rattle.spec_body.specs.Record.{oneFor, countOf};
 ghost use Rattle.spec_body.specs.Encode.{goodPair, goodPairs, goodShape, encodeOperands, encodeRecord, encodeRecords};
 ghost use Rattle.spec_body.specs.Operation as operation;
 ghost use Rattle.spec_body.specs.Operation.{encodeOutcome, report, exitOf};
+ghost use Rattle.encode.specs.Plain.{codeTable};
 ghost use Rattle.encode.specs.Encoding.{recordAt, pairsAt, Operanded, Turn, Encoding, encodeReport};
 use crate::operand::fits_in;
 use numbers::parse::Number;
@@ -142,8 +143,8 @@ fn encode_operands(row: [u8; 8], words: &[u64], at: usize, out: &mut [u8], from:
     Wrote::To(k)
 }
 
-// Writes record i from position `from` on.
-fn encode_record(
+// Writes record i from position `from` on, whatever its operands' kinds are.
+fn encode_any(
     types: &[[u8; 8]; 256],
     last: usize,
     words: &[u64],
@@ -152,7 +153,7 @@ fn encode_record(
     from: usize,
 ) -> EncodeAnswer
     requires { ⌜ (20 * i + 20 ≤ length (now words)) × (last ≤ 255) ⌝ }
-    ensures { λ r. ⌜ Turn (encodeRecord (now (types .entry)) last i (recordAt (now (words .entry)) (20 * i))) (now (out .entry)) «from» (now (out .exit)) r ⌝ }
+    ensures { λ r. ⌜ Turn (encodeRecord (now (types .entry)) last i (recordAt (now (words .entry)) (20 * i))) (now (out .entry)) «from» 0 (now (out .exit)) r ⌝ }
 {
     let at = 20 * i;
     if !good_shape(words, at) {
@@ -174,6 +175,31 @@ fn encode_record(
     }
 }
 
+// Writes record i from position `from` on. Where it is a plain one, up to `spare` bytes behind it may be written as well,
+// since so many are written over by the records behind it.
+fn encode_record(
+    codes: &[[u64; 4]; 13],
+    types: &[[u8; 8]; 256],
+    last: usize,
+    words: &[u64],
+    i: usize,
+    spare: usize,
+    out: &mut [u8],
+    from: usize,
+) -> EncodeAnswer
+    requires { ⌜ (now codes ≡ codeTable) × (20 * i + 20 ≤ length (now words)) × (last ≤ 255) ⌝ }
+    ensures { λ r. ⌜ Turn (encodeRecord (now (types .entry)) last i (recordAt (now (words .entry)) (20 * i))) (now (out .entry)) «from» spare (now (out .exit)) r ⌝ }
+{
+    let at = 20 * i;
+    if crate::plain::has_room(out.len(), from, spare) {
+        if crate::plain::is_plain(codes, types, last, words, at) {
+            let k = crate::plain::put_record(codes, types, words, at, out, from);
+            return EncodeAnswer::Done(k);
+        }
+    }
+    encode_any(types, last, words, i, out, from)
+}
+
 // Writes all records: how many bytes they have, or the first refusal.
 fn encode_records(
     types: &[[u8; 8]; 256],
@@ -184,11 +210,12 @@ fn encode_records(
     requires { ⌜ last ≤ 255 ⌝ }
     ensures { λ r. ⌜ Encoding (encodeRecords (now (types .entry)) last (now (words .entry))) (now (out .entry)) (now (out .exit)) r ⌝ }
 {
+    let codes = crate::plain::code_table();
     let n = words.len() / 20;
     let mut k: usize = 0;
     let mut i: usize = 0;
     while i < n {
-        let r = encode_record(types, last, words, i, out, k);
+        let r = encode_record(&codes, types, last, words, i, n - i - 1, out, k);
         let EncodeAnswer::Done(next) = r else {
             return r;
         };

@@ -1,7 +1,11 @@
-use Prim.Native.Nat.{_*_}
-use borrow.Author.Tests.{not-true, not-false}
-use Rattle.encode.proofs.RecordLaws.{shape-bad, opcode-beyond, count-other, operands-to, operands-misfit}
 use mathlib.Core.Path.{sym, _∙_}
+use lib.ListN.{length}
+use lib.Dec.{leb}
+use Prim.Native.Nat.{_+_, _*_}
+use native.Mathlib.Omega.{arith}
+use borrow.Author.Tests.{leb-true}
+use Rattle.lists.proofs.Tests.{both-left, both-right}
+use Rattle.encode.proofs.RecordLaws.{plain-known, turn-plain, turn-more}
 use borrow.Author.Needs.{needs}
 use Rattle.encode.proofs.encode.encode_record.Statement.{statement}
 use Rattle.encode.proofs.encode.encode_record.Tie as tie
@@ -9,108 +13,49 @@ use Rattle.encode.proofs.encode.encode_record.Tie as tie
 mul-at : tie.Need-mul-at
 mul-at c = search needs
 
-good-shape-requires : tie.Need-good-shape-requires
-good-shape-requires c κs = search needs
+has-room-requires : tie.Need-has-room-requires
+has-room-requires c κs = search needs
 
-returns : tie.Need-returns
-returns c =
-    let a = c .before .before .before .before .args in
-    shape-bad (a .types .now) (a .last) (a .i) (20 * a .i) (a .words .now) _ _ _ (sym (c .before .good-shape .ensures) ∙ not-true _ (c .if1 .taken))
+is-plain-requires : tie.Need-is-plain-requires
+is-plain-requires c κs = search needs
 
-add-opcode : tie.Need-add-opcode
-add-opcode c = search needs
-
-mul-opcode : tie.Need-mul-opcode
-mul-opcode c = search needs
-
-shared-slice-read-opcode : tie.Need-shared-slice-read-opcode
-shared-slice-read-opcode c = search needs
-
-returns-2 : tie.Need-returns-2
-returns-2 c =
-    let a = c .before .before .before .before .before .before .args in
-    opcode-beyond (a .types .now) (a .last) (a .i) (20 * a .i) (a .words .now) _ _ _ (sym (c .before .before .before .good-shape .ensures) ∙ not-false _ (c .before .before .if1 .left)) (c .if2 .taken)
-
-mul-row : tie.Need-mul-row
-mul-row c = search needs
-
-element-copy-out-row : tie.Need-element-copy-out-row
-element-copy-out-row c = search needs
-
-add-if3 : tie.Need-add-if3
-add-if3 c = search needs
-
-mul-if3 : tie.Need-mul-if3
-mul-if3 c = search needs
-
-shared-slice-read-if3 : tie.Need-shared-slice-read-if3
-shared-slice-read-if3 c = search needs
-
-operand-count-requires : tie.Need-operand-count-requires
-operand-count-requires c κs = search needs
-
-returns-3 : tie.Need-returns-3
-returns-3 c =
-    let a = c .before .before .before .before .before .before .before .before .before .before .args in
-    count-other (a .types .now) (a .last) (a .i) (20 * a .i) (a .words .now) _ _ _ (sym (c .before .before .before .before .before .before .before .good-shape .ensures) ∙ not-false _ (c .before .before .before .before .before .before .if1 .left)) (c .before .before .before .before .if2 .left) (rw (c .before .operand-count .ensures) at (c .if3 .taken))
-
-cast-put-byte : tie.Need-cast-put-byte
-cast-put-byte c = search needs
-
-put-byte-requires : tie.Need-put-byte-requires
-put-byte-requires c κs = search needs
-
-encode-operands-requires : tie.Need-encode-operands-requires
-encode-operands-requires c κs = search needs
-
-enum-known-w : tie.Need-enum-known-w
-enum-known-w c = search needs
-
-enum-known-w-2 : tie.Need-enum-known-w-2
-enum-known-w-2 c = search needs
+put-record-requires : tie.Need-put-record-requires
+put-record-requires c κs =
+    let a = c .before .before .before .before .before .before .before .args in
+    let r = sym (c .before .before .before .before .has-room .ensures) ∙ c .before .before .before .if1 .taken in
+    let m = leb-true (a .from + 41) (length (a .out .now)) (both-right (leb 8 (a .spare)) _ r) in
+    let k = plain-known (a .types .now) (a .last) (20 * a .i) (a .words .now) (sym (c .before .before .is-plain .ensures) ∙ c .before .if2 .taken) in
+    (c .before .before .before .before .before .before .before .pre .0, c .before .before .before .before .before .before .before .pre .1, m, omega (arith, k, c .before .before .before .before .before .before .before .pre .2))
 
 same-length : tie.Need-same-length
 same-length c = search needs
 
-returns-4 : tie.Need-returns-4
-returns-4 c =
-    let a = c .before .before .before .before .before .before .before .before .before .before .before .before .before .before .before .before .before .before .before .before .before .args in
-    operands-to (a .types .now) (a .last) (a .i) (20 * a .i) (a .words .now) _ _ _ (sym (c .before .before .before .before .before .before .before .before .before .before .before .before .before .before .before .before .before .before .good-shape .ensures) ∙ not-false _ (c .before .before .before .before .before .before .before .before .before .before .before .before .before .before .before .before .before .if1 .left)) (c .before .before .before .before .before .before .before .before .before .before .before .before .before .before .before .if2 .left) (c .before .before .before .before .before .before .before .before .before .before .before .if3 .left ∙ c .before .before .before .before .before .before .before .before .before .before .before .before .operand-count .ensures)
-    _ _ (c .before .before .before .before .before .before .before .before .before .put-byte .ensures) _ (c .before .before .before .before .before .encode-operands .ensures) _ (c .before .w .given .1)
+returns : tie.Need-returns
+returns c =
+    let a = c .before .before .before .before .before .before .before .before .before .before .args in
+    let m = leb-true 8 (a .spare) (both-left _ _ (sym (c .before .before .before .before .before .before .before .has-room .ensures) ∙ c .before .before .before .before .before .before .if1 .taken)) in
+    let e = sym (c .before .before .before .before .before .is-plain .ensures) ∙ c .before .before .before .before .if2 .taken in
+    turn-plain (a .types .now) (a .last) (a .i) (20 * a .i) (a .words .now) _ _ (a .from) (a .spare) _ e (c .before .before .before .before .before .before .before .before .before .before .pre .1) m (c .before .before .put-record .ensures)
+
+encode-any-requires : tie.Need-encode-any-requires
+encode-any-requires c κs = search needs
 
 same-length-2 : tie.Need-same-length-2
 same-length-2 c = search needs
 
-returns-5 : tie.Need-returns-5
-returns-5 c =
-    let a = c .before .before .before .before .before .before .before .before .before .before .before .before .before .before .before .before .before .before .before .before .before .args in
-    operands-misfit (a .types .now) (a .last) (a .i) (20 * a .i) (a .words .now) _ _ _ (sym (c .before .before .before .before .before .before .before .before .before .before .before .before .before .before .before .before .before .before .good-shape .ensures) ∙ not-false _ (c .before .before .before .before .before .before .before .before .before .before .before .before .before .before .before .before .before .if1 .left)) (c .before .before .before .before .before .before .before .before .before .before .before .before .before .before .before .if2 .left) (c .before .before .before .before .before .before .before .before .before .before .before .if3 .left ∙ c .before .before .before .before .before .before .before .before .before .before .before .before .operand-count .ensures)
-    _ _ (c .before .before .before .before .before .before .before .before .before .put-byte .ensures) _ (c .before .before .before .before .before .encode-operands .ensures) _ (c .before .w2 .given .1)
+returns-2 : tie.Need-returns-2
+returns-2 c = turn-more (c .before .before .encode-any .ensures)
 
 pub encode-record-spec : {M : Type 1} → statement M
 encode-record-spec =
     tie.close
     (tie.spec
     mul-at
-    good-shape-requires
-    returns
-    add-opcode
-    mul-opcode
-    shared-slice-read-opcode
-    returns-2
-    mul-row
-    element-copy-out-row
-    add-if3
-    mul-if3
-    shared-slice-read-if3
-    operand-count-requires
-    returns-3
-    cast-put-byte
-    put-byte-requires
-    encode-operands-requires
-    enum-known-w
-    enum-known-w-2
+    has-room-requires
+    is-plain-requires
+    put-record-requires
     same-length
-    returns-4
+    returns
+    encode-any-requires
     same-length-2
-    returns-5)
+    returns-2)

@@ -1,42 +1,46 @@
 -- Records as decoding makes them, with at most four operands: each operand has the kind of its type, and its bytes are its
 -- bits. Assumes nothing.
+use mathlib.Core.Path.{_≡_}
 use mathlib.Core.Bool.{Bool, true}
 use mathlib.Core.List.{List, [], _∷_, _++_}
-use Prim.Native.Nat.{ℕ, _-_, _^_}
+use Prim.Native.Nat.{ℕ, _-_, _^_, _≤_}
 use lib.Dec.{eqb, leb, ltb}
 use lib.ListN.{take, drop, getD}
-use Rattle.lists.specs.Choice.{both}
+use Rattle.lists.specs.Choice.{pick, both}
 use Rattle.lists.specs.Scan.{all}
 use Rattle.spec_numbers.specs.LittleEndian.{leBytes}
-use Rattle.spec_sheet.specs.Types.{widthOf, kindOf}
-use Rattle.spec_body.specs.Record.{oneFor}
+use Rattle.spec_sheet.specs.Types.{widths, widthOf, kinds, kindOf}
+use Rattle.spec_body.specs.Record.{oneFor, countOf}
 
--- by type code: the kind, the largest bits, the bytes, and 1 for an operand
+-- by type code: the kinds, the largest bits and the bytes
 abbrev pub codeTable : List (List ℕ)
 codeTable =
-    (0 ∷ 0 ∷ 0 ∷ 0 ∷ [])
-    ∷ (0 ∷ 0xff ∷ 1 ∷ 1 ∷ [])
-    ∷ (2 ∷ 0xffffffff ∷ 4 ∷ 1 ∷ [])
-    ∷ (0 ∷ 0xff ∷ 1 ∷ 1 ∷ [])
-    ∷ (1 ∷ 0xffff ∷ 2 ∷ 1 ∷ [])
-    ∷ (2 ∷ 0xffffffff ∷ 4 ∷ 1 ∷ [])
-    ∷ (0 ∷ 0xff ∷ 1 ∷ 1 ∷ [])
-    ∷ (1 ∷ 0xffff ∷ 2 ∷ 1 ∷ [])
-    ∷ (2 ∷ 0xffffffff ∷ 4 ∷ 1 ∷ [])
-    ∷ (3 ∷ 0xff ∷ 1 ∷ 1 ∷ [])
-    ∷ (4 ∷ 0xffffffff ∷ 4 ∷ 1 ∷ [])
-    ∷ (4 ∷ 0xffffffff ∷ 4 ∷ 1 ∷ [])
-    ∷ (5 ∷ 0xffffffffffffffff ∷ 8 ∷ 1 ∷ [])
+    kinds
+    ∷ (0 ∷ 0xff ∷ 0xffffffff ∷ 0xff ∷ 0xffff ∷ 0xffffffff ∷ 0xff ∷ 0xffff ∷ 0xffffffff ∷ 0xff ∷ 0xffffffff ∷ 0xffffffff ∷ 0xffffffffffffffff ∷ [])
+    ∷ widths
     ∷ []
 
--- a pair of a type's kind and bytes, or zeros where there is no type; `used` is 1 for a pair that the count has, else 0
-abbrev pub plainPair : ℕ → ℕ → ℕ → ℕ → Bool
-plainPair code used kind bits = both (leb code 12) (both (eqb (oneFor code) used) (both (eqb kind (kindOf code)) (ltb bits (256 ^ widthOf code))))
+-- the first `count` codes are types, and the others are none
+unfoldable pub inOrder : List ℕ → ℕ → Bool
+inOrder [] count = true
+inOrder (c ∷ cs) count = both (eqb (oneFor c) (oneFor count)) (inOrder cs (count - 1))
 
--- the pairs of type codes, of which `count` are used
-unfoldable pub plainPairs : List ℕ → ℕ → List ℕ → Bool
-plainPairs [] count words = true
-plainPairs (c ∷ cs) count words = both (plainPair c (oneFor count) (getD words 0 0) (getD words 1 0)) (plainPairs cs (count - 1) (drop 2 words))
+-- how many operands a row's plain records have, or 9 where it has none
+unfoldable pub plainCount : List ℕ → ℕ
+plainCount row = pick (both (leb (countOf row) 4) (inOrder row (countOf row))) (countOf row) 9
+
+-- those of the rows up to `last`
+abbrev pub Counted : List (List ℕ) → ℕ → List ℕ → Type 0
+Counted types last counts = (op : ℕ) → op ≤ last → getD counts op 0 ≡ plainCount (getD types op [])
+
+-- a pair of a type's kind and bytes, or zeros where there is no type
+abbrev pub plainPair : ℕ → ℕ → ℕ → Bool
+plainPair code kind bits = both (leb code 12) (both (eqb kind (kindOf code)) (ltb bits (256 ^ widthOf code)))
+
+-- the pairs of type codes
+unfoldable pub plainPairs : List ℕ → List ℕ → Bool
+plainPairs [] words = true
+plainPairs (c ∷ cs) words = both (plainPair c (getD words 0 0) (getD words 1 0)) (plainPairs cs (drop 2 words))
 
 -- and their bytes
 unfoldable pub plainBytes : List ℕ → List ℕ → List ℕ
@@ -50,4 +54,4 @@ allZero s = all (λ (n : ℕ). eqb n 0) s
 unfoldable pub plainRecord : List (List ℕ) → ℕ → List ℕ → Bool
 plainRecord types last r =
     let row = getD types (getD r 1 0) [] in
-    both (leb (getD r 1 0) last) (both (leb (getD r 3 0) 4) (both (allZero (drop 4 row)) (both (allZero (drop 12 r)) (plainPairs (take 4 row) (getD r 3 0) (drop 4 r)))))
+    both (leb (getD r 1 0) last) (both (leb (getD r 3 0) 4) (both (eqb (getD r 3 0) (plainCount row)) (both (allZero (drop 12 r)) (plainPairs (take 4 row) (drop 4 r)))))

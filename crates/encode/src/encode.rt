@@ -6,11 +6,10 @@ ghost use Prim.Native.Nat.{ℕ, _+_, _-_, _*_, _≤_};
 ghost use lib.Dec.{eqb};
 ghost use lib.ListN.{length};
 ghost use Rattle.lists.specs.Choice.{pick, both};
-ghost use Rattle.spec_body.specs.Record.{oneFor, countOf};
 ghost use Rattle.spec_body.specs.Encode.{goodPair, goodPairs, goodShape, encodeOperands, encodeRecord, encodeRecords};
 ghost use Rattle.spec_body.specs.Operation as operation;
 ghost use Rattle.spec_body.specs.Operation.{encodeOutcome, report, exitOf};
-ghost use Rattle.encode.specs.Plain.{codeTable};
+ghost use Rattle.encode.specs.Plain.{codeTable, Counted};
 ghost use Rattle.encode.specs.Encoding.{recordAt, pairsAt, Operanded, Turn, Encoding, encodeReport};
 use crate::operand::fits_in;
 use numbers::parse::Number;
@@ -95,25 +94,6 @@ pub fn good_shape(words: &[u64], at: usize) -> bool
     good_pairs(words, at, count)
 }
 
-fn one_for(code: u8) -> u64
-    ensures { λ r. ⌜ r ≡ oneFor code ⌝ }
-{
-    if code == 0 { 0 } else { 1 }
-}
-
-// How many operands a row of type codes has.
-fn operand_count(row: [u8; 8]) -> u64
-    ensures { λ r. ⌜ r ≡ countOf row ⌝ }
-{
-    let mut n: u64 = 0;
-    let mut i: usize = 0;
-    while i < 8 {
-        n += one_for(row[i]);
-        i += 1;
-    }
-    n
-}
-
 // Operands that were written: the next position; or the one that doesn't fit, from 1.
 enum Wrote {
     To(usize),
@@ -164,7 +144,7 @@ fn encode_any(
         return EncodeAnswer::Beyond(i);
     }
     let row = types[opcode as usize];
-    if words[at + 3] != operand_count(row) {
+    if words[at + 3] != crate::plain::operand_count(row) {
         return EncodeAnswer::Count(i);
     }
     let k = slices::write::put_byte(out, from, opcode as u8);
@@ -178,7 +158,8 @@ fn encode_any(
 // Writes record i from position `from` on. Where it is a plain one, up to `spare` bytes behind it may be written as well,
 // since so many are written over by the records behind it.
 fn encode_record(
-    codes: &[[u64; 4]; 13],
+    codes: &[[u64; 13]; 3],
+    counts: &[u8; 256],
     types: &[[u8; 8]; 256],
     last: usize,
     words: &[u64],
@@ -187,12 +168,12 @@ fn encode_record(
     out: &mut [u8],
     from: usize,
 ) -> EncodeAnswer
-    requires { ⌜ (now codes ≡ codeTable) × (20 * i + 20 ≤ length (now words)) × (last ≤ 255) ⌝ }
+    requires { ⌜ (now codes ≡ codeTable) × (Counted (now types) last (now counts)) × (20 * i + 20 ≤ length (now words)) × (last ≤ 255) ⌝ }
     ensures { λ r. ⌜ Turn (encodeRecord (now (types .entry)) last i (recordAt (now (words .entry)) (20 * i))) (now (out .entry)) «from» spare (now (out .exit)) r ⌝ }
 {
     let at = 20 * i;
     if crate::plain::has_room(out.len(), from, spare) {
-        if crate::plain::is_plain(codes, types, last, words, at) {
+        if crate::plain::is_plain(codes, counts, types, last, words, at) {
             let k = crate::plain::put_record(codes, types, words, at, out, from);
             return EncodeAnswer::Done(k);
         }
@@ -211,11 +192,12 @@ fn encode_records(
     ensures { λ r. ⌜ Encoding (encodeRecords (now (types .entry)) last (now (words .entry))) (now (out .entry)) (now (out .exit)) r ⌝ }
 {
     let codes = crate::plain::code_table();
+    let counts = crate::plain::plain_counts(types, last);
     let n = words.len() / 20;
     let mut k: usize = 0;
     let mut i: usize = 0;
     while i < n {
-        let r = encode_record(&codes, types, last, words, i, n - i - 1, out, k);
+        let r = encode_record(&codes, &counts, types, last, words, i, n - i - 1, out, k);
         let EncodeAnswer::Done(next) = r else {
             return r;
         };

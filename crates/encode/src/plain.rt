@@ -10,28 +10,33 @@ ghost use Rattle.lists.specs.Choice.{pick, both};
 ghost use Rattle.lists.specs.Write.{put};
 ghost use Rattle.spec_numbers.specs.LittleEndian.{leBytes};
 ghost use Rattle.spec_sheet.specs.Types.{widthOf};
+ghost use Rattle.spec_body.specs.Record.{oneFor, countOf};
 ghost use Rattle.encode.specs.Encoding.{recordAt, pairsAt, Ahead, PlainPut};
-ghost use Rattle.encode.specs.Plain.{codeTable, plainPair, plainPairs, plainBytes, allZero, plainRecord};
+ghost use Rattle.encode.specs.Plain.{codeTable, inOrder, plainCount, Counted, plainPair, plainPairs, plainBytes, allZero, plainRecord};
 
-// By type code: the kind that it is decoded to, its largest bits, its bytes, and 1 for an operand. It is made once for all
-// records and lent.
-pub fn code_table() -> [[u64; 4]; 13]
+// By type code: the kind that it is decoded to, its largest bits, and its bytes. It is made once for all records and lent,
+// since a constant would be made anew at each use.
+pub fn code_table() -> [[u64; 13]; 3]
     ensures { λ r. ⌜ r ≡ codeTable ⌝ }
 {
     [
-        [0, 0, 0, 0],
-        [0, 0xff, 1, 1],
-        [2, 0xffff_ffff, 4, 1],
-        [0, 0xff, 1, 1],
-        [1, 0xffff, 2, 1],
-        [2, 0xffff_ffff, 4, 1],
-        [0, 0xff, 1, 1],
-        [1, 0xffff, 2, 1],
-        [2, 0xffff_ffff, 4, 1],
-        [3, 0xff, 1, 1],
-        [4, 0xffff_ffff, 4, 1],
-        [4, 0xffff_ffff, 4, 1],
-        [5, 0xffff_ffff_ffff_ffff, 8, 1],
+        [0, 0, 2, 0, 1, 2, 0, 1, 2, 3, 4, 4, 5],
+        [
+            0,
+            0xff,
+            0xffff_ffff,
+            0xff,
+            0xffff,
+            0xffff_ffff,
+            0xff,
+            0xffff,
+            0xffff_ffff,
+            0xff,
+            0xffff_ffff,
+            0xffff_ffff,
+            0xffff_ffff_ffff_ffff,
+        ],
+        [0, 1, 4, 1, 2, 4, 1, 2, 4, 1, 4, 4, 8],
     ]
 }
 
@@ -41,53 +46,92 @@ fn one_if(used: bool) -> u64
     if used { 1 } else { 0 }
 }
 
+fn one_for(code: u8) -> u64
+    ensures { λ r. ⌜ r ≡ oneFor code ⌝ }
+{
+    if code == 0 { 0 } else { 1 }
+}
+
+// How many operands a row of type codes has.
+pub fn operand_count(row: [u8; 8]) -> u64
+    ensures { λ r. ⌜ r ≡ countOf row ⌝ }
+{
+    let mut n: u64 = 0;
+    let mut i: usize = 0;
+    while i < 8 {
+        n += one_for(row[i]);
+        i += 1;
+    }
+    n
+}
+
+// Whether the first `count` codes of a row are types and the others none.
+fn in_order(row: [u8; 8], count: u64) -> bool
+    ensures { λ r. ⌜ r ≡ inOrder row count ⌝ }
+{
+    let mut j: usize = 0;
+    while j < 8 {
+        if one_for(row[j]) != one_if((j as u64) < count) {
+            return false;
+        }
+        j += 1;
+    }
+    true
+}
+
+// How many operands the plain records of a row have; 9, which no record may have, where it has none.
+fn plain_count(row: [u8; 8]) -> u8
+    ensures { λ r. ⌜ r ≡ plainCount row ⌝ }
+{
+    let n = operand_count(row);
+    if 4 < n {
+        return 9;
+    }
+    if in_order(row, n) { n as u8 } else { 9 }
+}
+
+// The same of each row up to the largest opcode, made once for all records.
+pub fn plain_counts(types: &[[u8; 8]; 256], last: usize) -> [u8; 256]
+    requires { ⌜ last ≤ 255 ⌝ }
+    ensures { λ r. ⌜ Counted (now (types .entry)) last r ⌝ }
+{
+    let mut counts = [9u8; 256];
+    let mut op: usize = 0;
+    while op <= last {
+        counts[op] = plain_count(types[op]);
+        op += 1;
+    }
+    counts
+}
+
 // Whether a pair has its type's kind and bytes.
-fn plain_pair(codes: &[[u64; 4]; 13], code: u8, used: u64, kind: u64, bits: u64) -> bool
+fn plain_pair(codes: &[[u64; 13]; 3], code: u8, kind: u64, bits: u64) -> bool
     requires { ⌜ now codes ≡ codeTable ⌝ }
-    ensures { λ r. ⌜ r ≡ plainPair code used kind bits ⌝ }
+    ensures { λ r. ⌜ r ≡ plainPair code kind bits ⌝ }
 {
     if 12 < code {
         return false;
     }
     let c = code as usize;
-    if codes[c][3] != used {
+    if kind != codes[0][c] {
         return false;
     }
-    if kind != codes[c][0] {
-        return false;
-    }
-    bits <= codes[c][1]
+    bits <= codes[1][c]
 }
 
 // Whether the first four pairs of the record at `at` have.
-fn plain_front(codes: &[[u64; 4]; 13], row: [u8; 8], words: &[u64], at: usize) -> bool
+fn plain_front(codes: &[[u64; 13]; 3], row: [u8; 8], words: &[u64], at: usize) -> bool
     requires { ⌜ (now codes ≡ codeTable) × (at + 20 ≤ length (now words)) ⌝ }
-    ensures { λ r. ⌜ r ≡ plainPairs (take 4 row) (getD (now (words .entry)) (at + 3) 0) (pairsAt (now (words .entry)) at) ⌝ }
+    ensures { λ r. ⌜ r ≡ plainPairs (take 4 row) (pairsAt (now (words .entry)) at) ⌝ }
 {
-    let count = words[at + 3];
     let mut j: usize = 0;
     while j < 4 {
         let p = at + 4 + 2 * j;
-        let used = one_if((j as u64) < count);
-        if plain_pair(codes, row[j], used, words[p], words[p + 1]) {
+        if plain_pair(codes, row[j], words[p], words[p + 1]) {
             j += 1;
         } else {
             return false;
         }
-    }
-    true
-}
-
-// Whether a row has no type from the fifth on.
-fn bare_row(row: [u8; 8]) -> bool
-    ensures { λ r. ⌜ r ≡ allZero (drop 4 row) ⌝ }
-{
-    let mut j: usize = 4;
-    while j < 8 {
-        if row[j] != 0 {
-            return false;
-        }
-        j += 1;
     }
     true
 }
@@ -106,34 +150,43 @@ fn bare_words(words: &[u64], at: usize) -> bool
     met == 0
 }
 
+fn wide(n: u8) -> u64
+    ensures { λ r. ⌜ r ≡ n ⌝ }
+{
+    n as u64
+}
+
 // Whether the record at `at` is one.
 pub fn is_plain(
-    codes: &[[u64; 4]; 13],
+    codes: &[[u64; 13]; 3],
+    counts: &[u8; 256],
     types: &[[u8; 8]; 256],
     last: usize,
     words: &[u64],
     at: usize,
 ) -> bool
-    requires { ⌜ (now codes ≡ codeTable) × (at + 20 ≤ length (now words)) × (last ≤ 255) ⌝ }
+    requires { ⌜ (now codes ≡ codeTable) × (Counted (now types) last (now counts)) × (at + 20 ≤ length (now words)) × (last ≤ 255) ⌝ }
     ensures { λ r. ⌜ r ≡ plainRecord (now (types .entry)) last (recordAt (now (words .entry)) at) ⌝ }
 {
     let opcode = words[at + 1];
     if (last as u64) < opcode {
         return false;
     }
-    if 4 < words[at + 3] {
+    let op = opcode as usize;
+    let count = words[at + 3];
+    if 4 < count {
         return false;
     }
-    let row = types[opcode as usize];
-    if bare_row(row) {
-        if bare_words(words, at) {
-            return plain_front(codes, row, words, at);
-        }
+    if count != wide(counts[op]) {
+        return false;
+    }
+    if bare_words(words, at) {
+        return plain_front(codes, types[op], words, at);
     }
     false
 }
 
-fn width_in(codes: &[[u64; 4]; 13], code: u8) -> usize
+fn width_in(codes: &[[u64; 13]; 3], code: u8) -> usize
     requires { ⌜ now codes ≡ codeTable ⌝ }
     ensures { λ r. ⌜ r ≡ widthOf code ⌝ }
 {
@@ -141,7 +194,7 @@ fn width_in(codes: &[[u64; 4]; 13], code: u8) -> usize
         return 0;
     }
     let c = code as usize;
-    codes[c][2] as usize
+    codes[2][c] as usize
 }
 
 // Writes eight bytes.
@@ -160,7 +213,7 @@ fn put_eight(out: &mut [u8], at: usize, v: u64)
 
 // Writes the first four operands of the record at `at` from position `from` on.
 fn put_operands(
-    codes: &[[u64; 4]; 13],
+    codes: &[[u64; 13]; 3],
     row: [u8; 8],
     words: &[u64],
     at: usize,
@@ -187,15 +240,15 @@ pub fn has_room(len: usize, from: usize, spare: usize) -> bool
     if spare < 8 {
         return false;
     }
-    if len < from {
+    if len < 41 {
         return false;
     }
-    41 <= len - from
+    from <= len - 41
 }
 
 // Writes the record at `at`.
 pub fn put_record(
-    codes: &[[u64; 4]; 13],
+    codes: &[[u64; 13]; 3],
     types: &[[u8; 8]; 256],
     words: &[u64],
     at: usize,

@@ -25,7 +25,7 @@ put-record-requires c κs =
     let r = sym (c .before .before .before .before .has-room .ensures) ∙ c .before .before .before .if1 .taken in
     let m = leb-true (a .from + 41) (length (a .out .now)) (both-right (leb 8 (a .spare)) _ r) in
     let k = plain-known (a .types .now) (a .last) (20 * a .i) (a .words .now) (sym (c .before .before .is-plain .ensures) ∙ c .before .if2 .taken) in
-    (c .before .before .before .before .before .before .before .pre .0, c .before .before .before .before .before .before .before .pre .1, m, omega (arith, k, c .before .before .before .before .before .before .before .pre .2))
+    (c .before .before .before .before .before .before .before .pre .0, c .before .before .before .before .before .before .before .pre .2, m, omega (arith, k, c .before .before .before .before .before .before .before .pre .3))
 
 same-length : tie.Need-same-length
 same-length c = search needs
@@ -35,7 +35,7 @@ returns c =
     let a = c .before .before .before .before .before .before .before .before .before .before .args in
     let m = leb-true 8 (a .spare) (both-left _ _ (sym (c .before .before .before .before .before .before .before .has-room .ensures) ∙ c .before .before .before .before .before .before .if1 .taken)) in
     let e = sym (c .before .before .before .before .before .is-plain .ensures) ∙ c .before .before .before .before .if2 .taken in
-    turn-plain (a .types .now) (a .last) (a .i) (20 * a .i) (a .words .now) _ _ (a .from) (a .spare) _ e (c .before .before .before .before .before .before .before .before .before .before .pre .1) m (c .before .before .put-record .ensures)
+    turn-plain (a .types .now) (a .last) (a .i) (20 * a .i) (a .words .now) _ _ (a .from) (a .spare) _ e (c .before .before .before .before .before .before .before .before .before .before .pre .2) m (c .before .before .put-record .ensures)
 
 encode-any-requires : tie.Need-encode-any-requires
 encode-any-requires c κs = search needs

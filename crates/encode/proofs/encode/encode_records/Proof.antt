@@ -8,17 +8,20 @@ use Rattle.encode.proofs.encode.encode_records.Statement.{statement}
 use Rattle.encode.proofs.encode.encode_records.Tie as tie
 
 abbrev Inv-loop : tie.InvT-loop
-Inv-loop types last words out₀ codes n k₀ i₀ out k i = Going types last words out₀ out k i
+Inv-loop types last words out₀ codes counts n k₀ i₀ out k i = Going types last words out₀ out k i
 
 abbrev μ-loop : tie.MeasureT-loop
-μ-loop types last words out₀ codes n k₀ i₀ out k i = n - i
+μ-loop types last words out₀ codes counts n k₀ i₀ out k i = n - i
 
 code-table-requires : tie.Need-code-table-requires Inv-loop μ-loop
 code-table-requires c κs = search needs
 
+plain-counts-requires : tie.Need-plain-counts-requires Inv-loop μ-loop
+plain-counts-requires c κs = search needs
+
 loop-holds : tie.Need-loop-holds Inv-loop μ-loop
 loop-holds c =
-    let a = c .before .before .before .args in
+    let a = c .before .before .before .before .args in
     start (a .types .now) (a .last) (a .words .now) (a .out .now) (omega arith)
 
 sub-encode-record : tie.Need-sub-encode-record Inv-loop μ-loop
@@ -35,13 +38,13 @@ enum-known-r c = search needs
 
 same-length : tie.Need-same-length Inv-loop μ-loop
 same-length c =
-    let e = ahead-length (c .before .before .before .before .before .before .before .loop .inv .wrote) in
+    let e = ahead-length (c .before .before .before .before .before .before .before .before .loop .inv .wrote) in
     search needs
 
 returns : tie.Need-returns Inv-loop μ-loop
 returns c =
-    let l = c .before .before .before .before .before .before .before .loop in
-    stops _ _ _ _ _ _ _ (l .inv) (c .before .before .before .before .before .before .loop-test .taken) _ refl _ _ (c .before .before .before .encode-record .ensures) (λ n q. other-tag (rw q at (c .match .keys2)))
+    let l = c .before .before .before .before .before .before .before .before .loop in
+    stops _ _ _ _ _ _ _ (l .inv) (c .before .before .before .before .before .before .before .loop-test .taken) _ refl _ _ (c .before .before .before .encode-record .ensures) (λ n q. other-tag (rw q at (c .match .keys2)))
 
 add-i : tie.Need-add-i Inv-loop μ-loop
 add-i c = search needs
@@ -51,8 +54,8 @@ loop-less c = search needs
 
 loop-again : tie.Need-loop-again Inv-loop μ-loop
 loop-again c =
-    let l = c .before .before .before .before .before .before .before .before .before .loop in
-    turn _ _ _ _ _ _ _ (l .inv) (c .before .before .before .before .before .before .before .before .loop-test .taken) _ refl _ _ (c .before .before .before .before .before .encode-record .ensures) _ (c .before .r .given .1)
+    let l = c .before .before .before .before .before .before .before .before .before .before .loop in
+    turn _ _ _ _ _ _ _ (l .inv) (c .before .before .before .before .before .before .before .before .before .loop-test .taken) _ refl _ _ (c .before .before .before .before .before .encode-record .ensures) _ (c .before .r .given .1)
 
 same-length-2 : tie.Need-same-length-2 Inv-loop μ-loop
 same-length-2 c = ahead-length (c .before .before .loop .inv .wrote)
@@ -73,6 +76,7 @@ encode-records-spec =
     Inv-loop
     μ-loop
     code-table-requires
+    plain-counts-requires
     loop-holds
     sub-encode-record
     sub-encode-record-2

@@ -18,8 +18,8 @@ returns-3 : tie.Need-returns-3
 returns-3 c =
     let a = c .before .before .args in
     rw (le-leb 8 (a .spare) (c .before .if1 .left))
-    (by-leb 41 (a .len - a .from) (λ h. le-leb 41 (a .len - a .from) h ∙ sym (le-leb (a .from + 41) (a .len) (omega arith)))
-    (λ h. lt-leb 41 (a .len - a .from) h ∙ sym (lt-leb (a .from + 41) (a .len) (omega arith))))
+    (by-leb (a .from) (a .len - 41) (λ h. le-leb (a .from) (a .len - 41) h ∙ sym (le-leb (a .from + 41) (a .len) (omega arith)))
+    (λ h. lt-leb (a .from) (a .len - 41) h ∙ sym (lt-leb (a .from + 41) (a .len) (omega arith))))
 
 pub has-room-spec : {M : Type 1} → statement M
 has-room-spec = tie.close (tie.spec returns returns-2 returns-3)

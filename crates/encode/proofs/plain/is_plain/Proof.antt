@@ -1,10 +1,10 @@
 use mathlib.Core.Path.{sym, _∙_}
+use mathlib.Core.List.{[]}
 use lib.ListN.{getD}
 use Prim.Native.Nat.{_+_}
-use native.Mathlib.Omega.{arith}
-use borrow.Author.Tests.{lt-leb, le-leb}
-use Rattle.lists.proofs.Parts.{part-at}
-use Rattle.encode.specs.Plain.{plainRecord}
+use borrow.Author.Tests.{lt-leb, le-leb, eq-eqb, ne-eqb}
+use Rattle.encode.proofs.PlainLaws.{by-words}
+use Rattle.encode.specs.Plain.{plainCount}
 use borrow.Author.Needs.{needs}
 use Rattle.encode.proofs.plain.is_plain.Statement.{statement}
 use Rattle.encode.proofs.plain.is_plain.Tie as tie
@@ -19,58 +19,59 @@ shared-slice-read-opcode : tie.Need-shared-slice-read-opcode
 shared-slice-read-opcode c = search needs
 
 returns : tie.Need-returns
-unfolding plainRecord
 returns c =
     let a = c .before .before .before .args in
-    rw (part-at (a .words .now) (a .at) 20 1 0 (omega arith), lt-leb (getD (a .words .now) (a .at + 1) 0) (a .last) (c .if1 .taken))
+    sym (by-words (a .types .now) (a .last) (a .words .now) (a .at) ∙ rw (lt-leb (getD (a .words .now) (a .at + 1) 0) (a .last) (c .if1 .taken)))
 
-add-if2 : tie.Need-add-if2
-add-if2 c = search needs
+add-count : tie.Need-add-count
+add-count c = search needs
 
-mul-if2 : tie.Need-mul-if2
-mul-if2 c = search needs
+mul-count : tie.Need-mul-count
+mul-count c = search needs
 
-shared-slice-read-if2 : tie.Need-shared-slice-read-if2
-shared-slice-read-if2 c = search needs
+shared-slice-read-count : tie.Need-shared-slice-read-count
+shared-slice-read-count c = search needs
 
 returns-2 : tie.Need-returns-2
-unfolding plainRecord
 returns-2 c =
     let a = c .before .before .before .before .before .args in
-    rw (part-at (a .words .now) (a .at) 20 1 0 (omega arith), part-at (a .words .now) (a .at) 20 3 0 (omega arith), le-leb (getD (a .words .now) (a .at + 1) 0) (a .last) (c .before .before .if1 .left), lt-leb (getD (a .words .now) (a .at + 3) 0) 4 (c .if2 .taken))
+    sym (by-words (a .types .now) (a .last) (a .words .now) (a .at) ∙ rw (le-leb (getD (a .words .now) (a .at + 1) 0) (a .last) (c .before .before .if1 .left), lt-leb (getD (a .words .now) (a .at + 3) 0) 4 (c .if2 .taken)))
 
-mul-row : tie.Need-mul-row
-mul-row c = search needs
+element-copy-out-wide : tie.Need-element-copy-out-wide
+element-copy-out-wide c = search needs
 
-element-copy-out-row : tie.Need-element-copy-out-row
-element-copy-out-row c = search needs
+wide-requires : tie.Need-wide-requires
+wide-requires c κs = search needs
 
-bare-row-requires : tie.Need-bare-row-requires
-bare-row-requires c κs = search needs
+returns-3 : tie.Need-returns-3
+returns-3 c =
+    let a = c .before .before .before .before .before .before .before .before .args in
+    let n = c .before .wide .ensures ∙ c .before .before .before .before .before .before .before .before .pre .1 (getD (a .words .now) (a .at + 1) 0) (c .before .before .before .before .before .if1 .left) in
+    sym (by-words (a .types .now) (a .last) (a .words .now) (a .at) ∙ rw (le-leb (getD (a .words .now) (a .at + 1) 0) (a .last) (c .before .before .before .before .before .if1 .left), le-leb (getD (a .words .now) (a .at + 3) 0) 4 (c .before .before .before .if2 .left), ne-eqb (getD (a .words .now) (a .at + 3) 0) (plainCount (getD (a .types .now) (getD (a .words .now) (a .at + 1) 0) [])) (rw n at (c .if3 .taken))))
 
 bare-words-requires : tie.Need-bare-words-requires
 bare-words-requires c κs = search needs
 
+mul-plain-front : tie.Need-mul-plain-front
+mul-plain-front c = search needs
+
+element-copy-out-plain-front : tie.Need-element-copy-out-plain-front
+element-copy-out-plain-front c = search needs
+
 plain-front-requires : tie.Need-plain-front-requires
 plain-front-requires c κs = search needs
 
-returns-3 : tie.Need-returns-3
-unfolding plainRecord
-returns-3 c =
-    let a = c .before .before .before .before .before .before .before .before .before .before .before .args in
-    rw (part-at (a .words .now) (a .at) 20 1 0 (omega arith), part-at (a .words .now) (a .at) 20 3 0 (omega arith), le-leb (getD (a .words .now) (a .at + 1) 0) (a .last) (c .before .before .before .before .before .before .before .before .if1 .left), le-leb (getD (a .words .now) (a .at + 3) 0) 4 (c .before .before .before .before .before .before .if2 .left), sym (c .before .before .before .before .bare-row .ensures) ∙ c .before .before .before .if3 .taken, sym (c .before .before .bare-words .ensures) ∙ c .before .if4 .taken) (c .plain-front .ensures)
-
 returns-4 : tie.Need-returns-4
-unfolding plainRecord
 returns-4 c =
-    let a = c .before .before .before .before .before .before .before .before .before .before .args in
-    rw (part-at (a .words .now) (a .at) 20 1 0 (omega arith), part-at (a .words .now) (a .at) 20 3 0 (omega arith), le-leb (getD (a .words .now) (a .at + 1) 0) (a .last) (c .before .before .before .before .before .before .before .if1 .left), le-leb (getD (a .words .now) (a .at + 3) 0) 4 (c .before .before .before .before .before .if2 .left), sym (c .before .before .before .bare-row .ensures) ∙ c .before .before .if3 .taken, sym (c .before .bare-words .ensures) ∙ c .if4 .left)
+    let a = c .before .before .before .before .before .before .before .before .before .before .before .before .args in
+    let n = c .before .before .before .before .before .wide .ensures ∙ c .before .before .before .before .before .before .before .before .before .before .before .before .pre .1 (getD (a .words .now) (a .at + 1) 0) (c .before .before .before .before .before .before .before .before .before .if1 .left) in
+    sym (by-words (a .types .now) (a .last) (a .words .now) (a .at) ∙ rw (le-leb (getD (a .words .now) (a .at + 1) 0) (a .last) (c .before .before .before .before .before .before .before .before .before .if1 .left), le-leb (getD (a .words .now) (a .at + 3) 0) 4 (c .before .before .before .before .before .before .before .if2 .left), eq-eqb (getD (a .words .now) (a .at + 3) 0) (plainCount (getD (a .types .now) (getD (a .words .now) (a .at + 1) 0) [])) (rw n at (c .before .before .before .before .if3 .left)), sym (c .before .before .before .bare-words .ensures) ∙ c .before .before .if4 .taken) (sym (c .plain-front .ensures)))
 
 returns-5 : tie.Need-returns-5
-unfolding plainRecord
 returns-5 c =
-    let a = c .before .before .before .before .before .before .before .before .args in
-    rw (part-at (a .words .now) (a .at) 20 1 0 (omega arith), part-at (a .words .now) (a .at) 20 3 0 (omega arith), le-leb (getD (a .words .now) (a .at + 1) 0) (a .last) (c .before .before .before .before .before .if1 .left), le-leb (getD (a .words .now) (a .at + 3) 0) 4 (c .before .before .before .if2 .left), sym (c .before .bare-row .ensures) ∙ c .if3 .left)
+    let a = c .before .before .before .before .before .before .before .before .before .before .args in
+    let n = c .before .before .before .wide .ensures ∙ c .before .before .before .before .before .before .before .before .before .before .pre .1 (getD (a .words .now) (a .at + 1) 0) (c .before .before .before .before .before .before .before .if1 .left) in
+    sym (by-words (a .types .now) (a .last) (a .words .now) (a .at) ∙ rw (le-leb (getD (a .words .now) (a .at + 1) 0) (a .last) (c .before .before .before .before .before .before .before .if1 .left), le-leb (getD (a .words .now) (a .at + 3) 0) 4 (c .before .before .before .before .before .if2 .left), eq-eqb (getD (a .words .now) (a .at + 3) 0) (plainCount (getD (a .types .now) (getD (a .words .now) (a .at + 1) 0) [])) (rw n at (c .before .before .if3 .left)), sym (c .before .bare-words .ensures) ∙ c .if4 .left))
 
 pub is-plain-spec : {M : Type 1} → statement M
 is-plain-spec =
@@ -80,15 +81,16 @@ is-plain-spec =
     mul-opcode
     shared-slice-read-opcode
     returns
-    add-if2
-    mul-if2
-    shared-slice-read-if2
+    add-count
+    mul-count
+    shared-slice-read-count
     returns-2
-    mul-row
-    element-copy-out-row
-    bare-row-requires
-    bare-words-requires
-    plain-front-requires
+    element-copy-out-wide
+    wide-requires
     returns-3
+    bare-words-requires
+    mul-plain-front
+    element-copy-out-plain-front
+    plain-front-requires
     returns-4
     returns-5)

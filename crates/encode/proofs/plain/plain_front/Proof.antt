@@ -1,12 +1,9 @@
-use Prim.Native.Nat.{_+_}
-use lib.ListN.{getD}
-use native.Mathlib.Nat.{sub-zero}
 use mathlib.Core.Path.{_≡_, refl, sym, _∙_}
 use lib.Seq.{length-take-le}
 use lib.ListN.{length, take, drop, drop-of-length-le}
 use Prim.Native.Nat.{_-_, _*_, _≤_}
 use native.Mathlib.Omega.{arith}
-use Rattle.encode.proofs.PlainLaws.{used-one, four-code, pair-plain, pair-other}
+use Rattle.encode.proofs.PlainLaws.{four-code, pair-plain, pair-other}
 use Rattle.encode.specs.Encoding.{pairsAt}
 use Rattle.encode.specs.Plain.{plainPairs}
 use borrow.Author.Needs.{needs}
@@ -14,24 +11,13 @@ use Rattle.encode.proofs.plain.plain_front.Statement.{statement}
 use Rattle.encode.proofs.plain.plain_front.Tie as tie
 
 abbrev Inv-loop : tie.InvT-loop
-Inv-loop codes words at row count j₀ j = (j ≤ 4) × (plainPairs (take 4 row) count (pairsAt words at) ≡ plainPairs (drop j (take 4 row)) (count - j) (drop (2 * j) (pairsAt words at)))
+Inv-loop codes words at row j₀ j = (j ≤ 4) × (plainPairs (take 4 row) (pairsAt words at) ≡ plainPairs (drop j (take 4 row)) (drop (2 * j) (pairsAt words at)))
 
 abbrev μ-loop : tie.MeasureT-loop
-μ-loop codes words at row count j₀ j = 4 - j
-
-add-count : tie.Need-add-count Inv-loop μ-loop
-add-count c = search needs
-
-mul-count : tie.Need-mul-count Inv-loop μ-loop
-mul-count c = search needs
-
-shared-slice-read-count : tie.Need-shared-slice-read-count Inv-loop μ-loop
-shared-slice-read-count c = search needs
+μ-loop codes words at row j₀ j = 4 - j
 
 loop-holds : tie.Need-loop-holds Inv-loop μ-loop
-loop-holds c =
-    let a = c .before .before .args in
-    (omega arith, rw (sub-zero (getD (a .words .now) (a .at + 3) 0)))
+loop-holds c = (omega arith, refl)
 
 add-p : tie.Need-add-p Inv-loop μ-loop
 add-p c = search needs
@@ -41,9 +27,6 @@ mul-p c = search needs
 
 add-p-2 : tie.Need-add-p-2 Inv-loop μ-loop
 add-p-2 c = search needs
-
-one-if-requires : tie.Need-one-if-requires Inv-loop μ-loop
-one-if-requires c κs = search needs
 
 array-read-plain-pair : tie.Need-array-read-plain-pair Inv-loop μ-loop
 array-read-plain-pair c = search needs
@@ -74,29 +57,27 @@ loop-less c = search needs
 
 loop-again : tie.Need-loop-again Inv-loop μ-loop
 loop-again c =
-    let l = c .before .before .before .before .before .before .loop in
-    let a = c .before .before .before .before .before .before .before .before .before .args in
-    let n = getD (a .words .now) (a .at + 3) 0 in
+    let l = c .before .before .before .before .before .loop in
+    let a = c .before .before .before .before .before .before .before .args in
     let h : length (a .t2) ≡ 8 = search needs in
     let f : length (take 4 (a .t2)) ≡ 4 = length-take-le 4 (a .t2) (omega arith) in
-    (omega arith, l .inv .1 ∙ pair-plain (take 4 (a .t2)) (a .words .now) (a .at) n (l .j) _ refl (omega arith) (omega arith) (rw (four-code (a .t2) (l .j) (c .before .before .before .before .before .loop-test .taken), sym (used-one (l .j) n), sym (c .before .before .before .before .one-if .ensures)) (sym (c .before .plain-pair .ensures) ∙ c .if1 .taken)))
+    (omega arith, l .inv .1 ∙ pair-plain (take 4 (a .t2)) (a .words .now) (a .at) (l .j) _ refl (omega arith) (omega arith) (rw (four-code (a .t2) (l .j) (c .before .before .before .before .loop-test .taken)) (sym (c .before .plain-pair .ensures) ∙ c .if1 .taken)))
 
 returns : tie.Need-returns Inv-loop μ-loop
 returns c =
-    let l = c .before .before .before .before .before .before .loop in
-    let a = c .before .before .before .before .before .before .before .before .before .args in
-    let n = getD (a .words .now) (a .at + 3) 0 in
+    let l = c .before .before .before .before .before .loop in
+    let a = c .before .before .before .before .before .before .before .args in
     let h : length (a .t2) ≡ 8 = search needs in
     let f : length (take 4 (a .t2)) ≡ 4 = length-take-le 4 (a .t2) (omega arith) in
-    sym (l .inv .1 ∙ pair-other (take 4 (a .t2)) (a .words .now) (a .at) n (l .j) _ refl (omega arith) (omega arith) (rw (four-code (a .t2) (l .j) (c .before .before .before .before .before .loop-test .taken), sym (used-one (l .j) n), sym (c .before .before .before .before .one-if .ensures)) (sym (c .before .plain-pair .ensures) ∙ c .if1 .left)))
+    sym (l .inv .1 ∙ pair-other (take 4 (a .t2)) (a .words .now) (a .at) (l .j) _ refl (omega arith) (omega arith) (rw (four-code (a .t2) (l .j) (c .before .before .before .before .loop-test .taken)) (sym (c .before .plain-pair .ensures) ∙ c .if1 .left)))
 
 returns-2 : tie.Need-returns-2 Inv-loop μ-loop
 unfolding plainPairs
 returns-2 c =
     let l = c .before .loop in
-    let a = c .before .before .before .before .args in
+    let a = c .before .before .before .args in
     let h : length (a .t2) ≡ 8 = search needs in
-    let n : length (take 4 (a .t2)) ≡ 4 = length-take-le 4 (a .t2) (omega arith) in
+    let f : length (take 4 (a .t2)) ≡ 4 = length-take-le 4 (a .t2) (omega arith) in
     let g : length (take 4 (a .t2)) ≤ l .j = omega arith in
     sym (l .inv .1 ∙ rw (drop-of-length-le (take 4 (a .t2)) g))
 
@@ -106,14 +87,10 @@ plain-front-spec =
     (tie.spec
     Inv-loop
     μ-loop
-    add-count
-    mul-count
-    shared-slice-read-count
     loop-holds
     add-p
     mul-p
     add-p-2
-    one-if-requires
     array-read-plain-pair
     mul-plain-pair
     shared-slice-read-plain-pair

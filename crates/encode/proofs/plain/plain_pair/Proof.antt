@@ -1,5 +1,5 @@
 use mathlib.Core.Path.{sym}
-use Rattle.encode.proofs.PlainLaws.{no-type, other-use, other-kind, same-kind}
+use Rattle.encode.proofs.PlainLaws.{no-type, other-kind, same-kind}
 use borrow.Author.Needs.{needs}
 use Rattle.encode.proofs.plain.plain_pair.Statement.{statement}
 use Rattle.encode.proofs.plain.plain_pair.Tie as tie
@@ -7,7 +7,7 @@ use Rattle.encode.proofs.plain.plain_pair.Tie as tie
 returns : tie.Need-returns
 returns c =
     let a = c .before .args in
-    sym (no-type (a .codes .now) (c .before .pre) (a .code) (a .used) (a .kind) (a .bits) (c .if1 .taken))
+    sym (no-type (a .codes .now) (c .before .pre) (a .code) (a .kind) (a .bits) (c .if1 .taken))
 
 mul-if2 : tie.Need-mul-if2
 mul-if2 c = search needs
@@ -21,21 +21,7 @@ index-2-if2 c = search needs
 returns-2 : tie.Need-returns-2
 returns-2 c =
     let a = c .before .before .before .args in
-    sym (other-use (a .codes .now) (c .before .before .before .pre) (a .code) (a .used) (a .kind) (a .bits) (c .before .before .if1 .left) (c .if2 .taken))
-
-mul-if3 : tie.Need-mul-if3
-mul-if3 c = search needs
-
-index-1-if3 : tie.Need-index-1-if3
-index-1-if3 c = search needs
-
-index-2-if3 : tie.Need-index-2-if3
-index-2-if3 c = search needs
-
-returns-3 : tie.Need-returns-3
-returns-3 c =
-    let a = c .before .before .before .before .before .args in
-    sym (other-kind (a .codes .now) (c .before .before .before .before .before .pre) (a .code) (a .used) (a .kind) (a .bits) (c .before .before .before .before .if1 .left) (c .before .before .if2 .left) (c .if3 .taken))
+    sym (other-kind (a .codes .now) (c .before .before .before .pre) (a .code) (a .kind) (a .bits) (c .before .before .if1 .left) (c .if2 .taken))
 
 mul-result : tie.Need-mul-result
 mul-result c = search needs
@@ -46,10 +32,10 @@ index-1-result c = search needs
 index-2-result : tie.Need-index-2-result
 index-2-result c = search needs
 
-returns-4 : tie.Need-returns-4
-returns-4 c =
-    let a = c .before .before .before .before .before .before .args in
-    sym (same-kind (a .codes .now) (c .before .before .before .before .before .before .pre) (a .code) (a .used) (a .kind) (a .bits) (c .before .before .before .before .before .if1 .left) (c .before .before .before .if2 .left) (c .before .if3 .left))
+returns-3 : tie.Need-returns-3
+returns-3 c =
+    let a = c .before .before .before .before .args in
+    sym (same-kind (a .codes .now) (c .before .before .before .before .pre) (a .code) (a .kind) (a .bits) (c .before .before .before .if1 .left) (c .before .if2 .left))
 
 pub plain-pair-spec : {M : Type 1} → statement M
 plain-pair-spec =
@@ -60,11 +46,7 @@ plain-pair-spec =
     index-1-if2
     index-2-if2
     returns-2
-    mul-if3
-    index-1-if3
-    index-2-if3
-    returns-3
     mul-result
     index-1-result
     index-2-result
-    returns-4)
+    returns-3)

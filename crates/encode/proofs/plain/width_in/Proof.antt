@@ -22,7 +22,7 @@ index-2-result c = search needs
 returns-2 : tie.Need-returns-2
 returns-2 c =
     let a = c .before .before .args in
-    width-at (a .codes .now) (c .before .before .pre) (a .code) (c .before .if1 .left)
+    width-at (a .codes .now) (c .before .before .pre) (a .code)
 
 pub width-in-spec : {M : Type 1} → statement M
 width-in-spec = tie.close (tie.spec returns mul-result index-1-result index-2-result returns-2)

@@ -6,8 +6,8 @@ use native.Mathlib.Nat.{zero-add}
 use native.Mathlib.Omega.{arith}
 use mathlib.Core.Path.{_≡_}
 use borrow.Author.Needs.{needs}
-use Rattle.encode.proofs.encode.operand_count.Statement.{statement}
-use Rattle.encode.proofs.encode.operand_count.Tie as tie
+use Rattle.encode.proofs.plain.operand_count.Statement.{statement}
+use Rattle.encode.proofs.plain.operand_count.Tie as tie
 
 abbrev Inv-loop : tie.InvT-loop
 Inv-loop row n₀ i₀ n i = (i ≤ 8) × (n ≤ i) × (n + countOf (drop i row) ≡ countOf row)

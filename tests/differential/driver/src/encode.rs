@@ -75,7 +75,7 @@ fn record(r: &mut Random, op: &Op, strange: bool) -> [u64; 20] {
 
 pub fn random_words(r: &mut Random, sheet: &Sheet) -> Vec<u64> {
     let strange = r.one_in(2);
-    let most = if r.one_in(50) { 60 } else { 5 };
+    let most = if r.one_in(6) { 40 } else { 5 };
     let mut words = Vec::new();
     for _ in 0..r.below(most) {
         let op = r.pick(&sheet.ops).clone();

@@ -124,7 +124,7 @@ pub fn decode(text: &[u8], body: &[u8], out: &mut [u64]) -> DecodeAnswer
 }
 
 // Whether a function's triple and its body are inside the list and the area.
-fn in_area(functions: &[u32], area: &[u8], base: u32, id: usize) -> bool
+pub fn in_area(functions: &[u32], area: &[u8], base: u32, id: usize) -> bool
     ensures { λ r. ⌜ r ≡ inArea (now (functions .entry)) (now (area .entry)) base id ⌝ }
 {
     if functions.len() / 3 <= id {
@@ -138,7 +138,7 @@ fn in_area(functions: &[u32], area: &[u8], base: u32, id: usize) -> bool
     offset - wide(base) + size <= area.len()
 }
 
-fn wide(x: u32) -> usize
+pub fn wide(x: u32) -> usize
     ensures { λ r. ⌜ (r ≡ x) × (r ≤ 4294967295) ⌝ }
 {
     x as usize

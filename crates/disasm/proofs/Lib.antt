@@ -1,2 +1,3 @@
 pub mod EndLaws
 pub mod OperationLaws
+pub mod FunctionLaws

@@ -1,3 +1,4 @@
 // The listing operations: a body, one function of an area, a whole module.
 pub mod answer;
+pub mod function;
 pub mod operation;

@@ -16,7 +16,7 @@ use inputs::Inputs;
 use slices::write::clear;
 
 // Sets every label entry to 0.
-fn clear_entries(entries: &mut [u32])
+pub fn clear_entries(entries: &mut [u32])
     ensures { λ _. ⌜ now (entries .exit) ≡ replicate (length (now (entries .entry))) 0 ⌝ }
 {
     let mut i: usize = 0;
@@ -63,7 +63,7 @@ pub fn list_under(
 }
 
 // What inputs that are refused answer.
-fn refused_inputs(i: Inputs) -> ListAnswer
+pub fn refused_inputs(i: Inputs) -> ListAnswer
     ensures { λ r. ⌜ listReport r ≡ inputsReport i ⌝ }
 {
     match i {

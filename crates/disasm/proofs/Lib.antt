@@ -1,3 +1,4 @@
 pub mod EndLaws
 pub mod OperationLaws
 pub mod FunctionLaws
+pub mod TitleLaws

@@ -2,3 +2,4 @@
 pub mod answer;
 pub mod function;
 pub mod operation;
+pub mod title;

@@ -2,3 +2,4 @@ pub mod EndLaws
 pub mod OperationLaws
 pub mod FunctionLaws
 pub mod TitleLaws
+pub mod ModuleLaws

@@ -1,3 +1,4 @@
 pub mod Answers
 pub mod Functions
 pub mod Titles
+pub mod Modules

@@ -111,7 +111,7 @@ pub record Given (p : Printing) («from» : ℕ) : Type 0 where
   pub marks-room : length (p .s) ≤ length (p .marks)
   pub body-size : length (p .s) ≤ 65536
   pub indent-size : length (p .indent) ≤ 2
-  pub from-small : «from» ≤ 1048577
+  pub from-small : «from» ≤ 2097152
 
 -- the record that stands at a place inside the body, and those behind it
 data Next (types : List (List ℕ)) (last : ℕ) (s : List ℕ) (at : ℕ) (rest : List (List ℕ)) : Type 0 where
@@ -219,7 +219,7 @@ printing offsets labels texts source types ops last bytes ends s marks indent = 
 }
 
 pub given : (p : Printing) {«from» : ℕ} → Marked (p .marks) (p .labels)
-    → (length (p .s) ≤ length (p .marks)) × (length (p .s) ≤ 65536) × (length (p .indent) ≤ 2) × («from» ≤ 1048577) → Given p «from»
+    → (length (p .s) ≤ length (p .marks)) × (length (p .s) ≤ 65536) × (length (p .indent) ≤ 2) × («from» ≤ 2097152) → Given p «from»
 given p m h = record { marked = m; marks-room = h .0; body-size = h .1; indent-size = h .2; from-small = h .3 }
 
 pub fits-next : (at size n : ℕ) → at + size ≤ n → n ≤ 65536 → at + size < 2 ^ 64

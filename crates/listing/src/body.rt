@@ -43,7 +43,7 @@ fn list_marked(
     marks: &mut [u8],
 ) -> Part
     requires { ⌜ now marks ≡ replicate (length (now marks)) 0 ⌝ }
-    requires { ⌜ (length (now s) ≤ length (now marks)) × (length (now s) ≤ 65536) × (length (now indent) ≤ 2) × («from» ≤ 1048577) ⌝ }
+    requires { ⌜ (length (now s) ≤ length (now marks)) × (length (now s) ≤ 65536) × (length (now indent) ≤ 2) × («from» ≤ 2097152) ⌝ }
     ensures { λ r. ⌜ Written (listDecoded (optionsOf offsets labels texts) (editionOf (now (source .entry)) (now (types .entry)) (now (ops .entry)) (now (bytes .entry)) (now (ends .entry))) (now (indent .entry)) (decodeBody (now (types .entry)) last (now (s .entry)))) (now (out .entry)) «from» (now (out .exit)) r ⌝ }
 {
     let c = labels::collect::collect_label_offsets(source, types, ops, last, s, marks);
@@ -100,7 +100,7 @@ pub fn list_body(
     out: &mut [u8],
     from: usize,
 ) -> Part
-    requires { ⌜ (length (now s) ≤ 65536) × (length (now indent) ≤ 2) × («from» ≤ 1048577) ⌝ }
+    requires { ⌜ (length (now s) ≤ 65536) × (length (now indent) ≤ 2) × («from» ≤ 2097152) ⌝ }
     ensures { λ r. ⌜ Written (listDecoded (optionsOf offsets labels texts) (editionOf (now (source .entry)) (now (types .entry)) (now (ops .entry)) (now (bytes .entry)) (now (ends .entry))) (now (indent .entry)) (decodeBody (now (types .entry)) last (now (s .entry)))) (now (out .entry)) «from» (now (out .exit)) r ⌝ }
 {
     if s.len() <= 4096 {

@@ -61,7 +61,7 @@ pub fn list_lines(
 ) -> Lines
     requires { ⌜ Decodes (now types) last (now s) ⌝ }
     requires { ⌜ Marked (now marks) (labelOffsets (editionOf (now source) (now types) (now ops) (now bytes) (now ends)) (recordsOf (decodeBody (now types) last (now s)))) ⌝ }
-    requires { ⌜ (length (now s) ≤ length (now marks)) × (length (now s) ≤ 65536) × (length (now indent) ≤ 2) × («from» ≤ 1048577) ⌝ }
+    requires { ⌜ (length (now s) ≤ length (now marks)) × (length (now s) ≤ 65536) × (length (now indent) ≤ 2) × («from» ≤ 2097152) ⌝ }
     ensures { λ r. ⌜ Lined
         (linesOf (optionsOf offsets labels texts) (editionOf (now (source .entry)) (now (types .entry)) (now (ops .entry)) (now (bytes .entry)) (now (ends .entry))) (labelOffsets (editionOf (now (source .entry)) (now (types .entry)) (now (ops .entry)) (now (bytes .entry)) (now (ends .entry))) (recordsOf (decodeBody (now (types .entry)) last (now (s .entry))))) (now (indent .entry)) (recordsOf (decodeBody (now (types .entry)) last (now (s .entry)))))
         (longLine (optionsOf offsets labels texts) (editionOf (now (source .entry)) (now (types .entry)) (now (ops .entry)) (now (bytes .entry)) (now (ends .entry))) (now (indent .entry)) (recordsOf (decodeBody (now (types .entry)) last (now (s .entry)))))

@@ -1,5 +1,6 @@
 -- One function in a module's listing. Assumes nothing.
 use mathlib.Core.Path.{_≡_, refl, _∙_}
+use mathlib.Core.Bool.{true, false}
 use mathlib.Core.List.{List, [], _∷_, _++_}
 use Prim.Native.Nat.{ℕ, _+_, _-_, _<_, _≤_, min, max}
 use native.Mathlib.Omega.{arith}
@@ -12,7 +13,9 @@ use Rattle.spec_body.specs.Decode.{decodeBody}
 use Rattle.spec_listing.specs.Edition.{Edition, Options}
 use Rattle.spec_listing.specs.Listing.{Listed, listDecoded, append}
 use Rattle.spec_listing.specs.Listing.Listed.{listed, refused}
-use Rattle.spec_listing.specs.Module.{banner, functionName}
+use Rattle.spec_body.specs.Function.{inArea, bodyOf, sizeOf, nameIdOf}
+use Rattle.spec_listing.specs.Module.{banner, functionName, listFunctionIn}
+use Rattle.disasm.specs.Functions.{areaOf}
 use Rattle.listing.specs.Bodies.{refusalOf, Written}
 use Rattle.listing.specs.Bodies.Written.{whole, stopped}
 use Rattle.listing.specs.declared.body.Part.{Part}
@@ -83,3 +86,23 @@ module _ (o : Options) (e : Edition) (last id name : ℕ) (s : List ℕ) {before
   titled-listed {a = a} w h l d f =
       let g = banner-fits «from» (length (titleOf e id name)) a low (w .next) h in
       rw (le-ltb 4096 (length (titleOf e id name)) (g .0)) (f _ before «from» (under-title (titleOf e id name ++ (10 ∷ [])) (w then l) d))
+
+-- a function of an area: 20, 18, then its body under its banner
+in-is : (o : Options) (e : Edition) (last : ℕ) (functions area : List ℕ) (base id : ℕ) → inArea functions area base id ≡ true → sizeOf functions id ≤ 65536
+    → listFunctionIn o e last (areaOf functions area base) id ≡ titled o e last id (nameIdOf functions id) (bodyOf functions area base id)
+unfolding listFunctionIn titled
+in-is o e last functions area base id h k = rw (h, le-ltb 65536 (sizeOf functions id) k)
+
+module _ (o : Options) (e : Edition) (last : ℕ) (functions area : List ℕ) (base id : ℕ) {before after : List ℕ} {«from» : ℕ} where
+  pub in-none : inArea functions area base id ≡ false → length after ≡ length before → PartWritten (listFunctionIn o e last (areaOf functions area base) id) before «from» after (part.NoFunction id)
+  unfolding listFunctionIn partRefusal
+  in-none h l = broken 20 id (rw h) refl l
+
+  pub in-large : inArea functions area base id ≡ true → 65536 < sizeOf functions id → length after ≡ length before
+      → PartWritten (listFunctionIn o e last (areaOf functions area base) id) before «from» after part.TooLarge
+  unfolding listFunctionIn partRefusal
+  in-large h k l = broken 18 0 (rw (h, lt-ltb 65536 (sizeOf functions id) k)) refl l
+
+  pub in-titled : {name : ℕ} {s : List ℕ} {r : FunctionPart} → inArea functions area base id ≡ true → sizeOf functions id ≤ 65536 → name ≡ nameIdOf functions id → s ≡ bodyOf functions area base id
+      → PartWritten (titled o e last id name s) before «from» after r → PartWritten (listFunctionIn o e last (areaOf functions area base) id) before «from» after r
+  in-titled h k n b w = rw (in-is o e last functions area base id h k) (rw (n, b) at w)

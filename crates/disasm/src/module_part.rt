@@ -8,7 +8,10 @@ ghost use Rattle.spec_listing.specs.Listing.{Listed, append};
 ghost use Rattle.spec_listing.specs.Listing.Listed.{listed};
 ghost use Rattle.listing.specs.Parts.{optionsOf, editionOf};
 ghost use Rattle.listing.specs.Bodies.{Written};
+ghost use Rattle.spec_listing.specs.Module.{listFunctionIn};
+ghost use Rattle.disasm.specs.Functions.{areaOf};
 ghost use Rattle.disasm.specs.Modules.{PartWritten, titled};
+use decode::instructions::wide;
 use listing::body::Part;
 use slices::write::put_byte;
 
@@ -79,4 +82,53 @@ fn list_titled(
         b,
     );
     end_part(p, out)
+}
+
+// Lists one function of an area at position `from`.
+pub fn list_function_in(
+    offsets: bool,
+    labels: bool,
+    texts: bool,
+    source: &[u8],
+    types: &[[u8; 8]; 256],
+    ops: &[[usize; 4]; 256],
+    last: usize,
+    bytes: &[u8],
+    ends: &[u32],
+    functions: &[u32],
+    area: &[u8],
+    base: u32,
+    id: usize,
+    out: &mut [u8],
+    from: usize,
+) -> FunctionPart
+    requires { ⌜ «from» ≤ 1048577 ⌝ }
+    ensures { λ r. ⌜ PartWritten (listFunctionIn (optionsOf offsets labels texts) (editionOf (now (source .entry)) (now (types .entry)) (now (ops .entry)) (now (bytes .entry)) (now (ends .entry))) last (areaOf (now (functions .entry)) (now (area .entry)) base) id) (now (out .entry)) «from» (now (out .exit)) r ⌝ }
+{
+    if decode::instructions::in_area(functions, area, base, id) {
+        let start = wide(functions[3 * id]) - wide(base);
+        let size = wide(functions[3 * id + 1]);
+        if 65536 < size {
+            return FunctionPart::TooLarge;
+        }
+        let name = wide(functions[3 * id + 2]);
+        let body = slices::part::part_of(area, start, size);
+        return list_titled(
+            offsets,
+            labels,
+            texts,
+            source,
+            types,
+            ops,
+            last,
+            bytes,
+            ends,
+            body,
+            id,
+            name,
+            out,
+            from,
+        );
+    }
+    FunctionPart::NoFunction(id)
 }

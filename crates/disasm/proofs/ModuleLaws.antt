@@ -47,7 +47,7 @@ unfolding append
 ended-refused n place r w q h e = broken n place (rw (was-refused n place w q)) h (rw e (same-size w))
 
 -- a title in front of a body
-pub under-title : {x : Listed} {before now after : List ℕ} {start k : ℕ} {p : Part} (t : List ℕ) → Put before start t now k → Written x now k after p → Written (append (listed t 0) x) before start after p
+under-title : {x : Listed} {before now after : List ℕ} {start k : ℕ} {p : Part} (t : List ℕ) → Put before start t now k → Written x now k after p → Written (append (listed t 0) x) before start after p
 unfolding append
 under-title t h (whole u k n e q w) =
     let m : max 0 n ≡ n = omega arith in
@@ -55,18 +55,11 @@ under-title t h (whole u k n e q w) =
 under-title t h (stopped n p e q l) = stopped n p (rw e) q (l ∙ kept-length h)
 
 -- a banner's length by the positions around it
-pub banner-fits : (a n c : ℕ) → a ≤ 1048577 → c ≡ min (a + n) top → c - a ≤ 4096 → (n ≤ 4096) × (c ≡ a + n)
+banner-fits : (a n c : ℕ) → a ≤ 1048577 → c ≡ min (a + n) top → c - a ≤ 4096 → (n ≤ 4096) × (c ≡ a + n)
 banner-fits a n c h e k = (omega (arith, e), omega (arith, e))
 
-pub banner-over : (a n c : ℕ) → a ≤ 1048577 → c ≡ min (a + n) top → 4096 < c - a → 4096 < n
+banner-over : (a n c : ℕ) → a ≤ 1048577 → c ≡ min (a + n) top → 4096 < c - a → 4096 < n
 banner-over a n c h e k = omega (arith, e)
-
-pub behind : (a n c : ℕ) → a ≤ 1048577 → c ≡ min (a + n) top → a ≤ c
-behind a n c h e = omega (arith, e)
-
--- and one more byte
-pub behind-line : (a n c d : ℕ) → a ≤ 1048577 → c ≡ min (a + n) top → c - a ≤ 4096 → d ≡ min (c + 1) top → d ≤ 2097152
-behind-line a n c d h e k f = omega (arith, e, f)
 
 abbrev pub titleOf : Edition → ℕ → ℕ → List ℕ
 titleOf e id name = banner id (nameIn (e .bytes) (e .ends) name)

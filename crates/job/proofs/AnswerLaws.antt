@@ -21,6 +21,7 @@ use Rattle.spec_job.specs.Job.JobRead.{listJob, badLine}
 use Rattle.spec_job.proofs.JobLaws.{body-size, edition-size, list-body}
 use Rattle.job_reader.specs.TableAnswers.{Opens}
 use Rattle.job_reader.specs.ReaderAnswers.{BodyIn, EditionIn, Holds}
+use Rattle.job_reader.specs.ReaderAnswers.EditionIn.{whole as whole-edition, faulty as faulty-edition}
 use Rattle.job_reader.specs.ReaderAnswers.BodyIn.{whole, faulty}
 use Rattle.job_reader.specs.declared.reader.EditionAnswer.{EditionAnswer}
 use Rattle.job_reader.specs.declared.reader.EditionAnswer.the-variants as editions

@@ -48,6 +48,13 @@ struct desk_answer desk_decode_function(const uint8_t *sheet, size_t sheet_len, 
 struct desk_answer desk_encode(const uint8_t *sheet, size_t sheet_len, const uint64_t *words, size_t words_len,
                                uint8_t *out, size_t out_len);
 
+/* Lists a body, with offsets, labels and texts shown or not. length counts the bytes of the text. One label entry is
+   needed for each different label offset, none where labels are not shown. */
+struct desk_answer desk_list(const uint8_t *sheet, size_t sheet_len, const uint8_t *bytes, size_t bytes_len,
+                             const uint32_t *ends, size_t ends_len, const uint8_t *body, size_t body_len, bool offsets,
+                             bool labels, bool texts, uint8_t *out, size_t out_len, uint32_t *entries,
+                             size_t entries_len);
+
 #ifdef __cplusplus
 }
 #endif

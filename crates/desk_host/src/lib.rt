@@ -1,14 +1,18 @@
 // The desk's functions for the host, called from C on numbers and slices: each is the proved operation with its answer as
 // four numbers.
 ghost use mathlib.Core.Path.{_≡_};
-ghost use lib.ListN.{length};
+ghost use lib.ListN.{length, replicate};
 ghost use Rattle.spec_body.specs.Operation as operation;
 ghost use Rattle.spec_body.specs.Operation.{report, exitOf};
 ghost use Rattle.decode.specs.Bodies.{decodeReport};
 ghost use Rattle.encode.specs.Encoding.{encodeReport};
 ghost use Rattle.desk_host.specs.Numbers.{numbersOf};
 ghost use Rattle.spec_answers.specs.Report.{refusal, success};
+ghost use Rattle.spec_listing.specs.Operation as listing;
+ghost use Rattle.listing.specs.Parts.{optionsOf};
+ghost use Rattle.disasm.specs.Answers.{listReport};
 use decode::instructions::DecodeAnswer;
+use disasm::answer::ListAnswer;
 use encode::encode::EncodeAnswer;
 
 // Number, place and operand of a refusal, or three zeros and the length.
@@ -105,4 +109,51 @@ pub extern "C" fn desk_encode(text: &[u8], words: &[u64], out: &mut [u8]) -> Des
     ensures { λ _. ⌜ now (out .exit) ≡ exitOf (operation.encode (now (text .entry)) (now (words .entry))) (now (out .entry)) ⌝ }
 {
     encode_numbers(encode::encode::encode(text, words, out))
+}
+
+// The numbers of listing's answer.
+pub fn list_numbers(a: ListAnswer) -> DeskAnswer
+    ensures { λ r. ⌜ r ≡ numbersOf (listReport a) ⌝ }
+{
+    match a {
+        ListAnswer::Done(n) => done(n),
+        ListAnswer::Malformed(line) => refused(1, line, 0),
+        ListAnswer::Long(place) => refused(3, place, 0),
+        ListAnswer::Beyond(at) => refused(13, at, 0),
+        ListAnswer::Cut(at) => refused(14, at, 0),
+        ListAnswer::Fault(id) => refused(17, id, 0),
+        ListAnswer::TooLarge => refused(18, 0, 0),
+        ListAnswer::Short => refused(19, 0, 0),
+        ListAnswer::NoFunction(id) => refused(20, id, 0),
+    }
+}
+
+// Lists a body under the sheet `text` and a string table, with offsets, labels and texts shown or not.
+#[no_mangle]
+pub extern "C" fn desk_list(
+    text: &[u8],
+    bytes: &[u8],
+    ends: &[u32],
+    body: &[u8],
+    offsets: bool,
+    labels: bool,
+    texts: bool,
+    out: &mut [u8],
+    entries: &mut [u32],
+) -> DeskAnswer
+    ensures { λ r. ⌜ r ≡ numbersOf (report (listing.list (optionsOf offsets labels texts) (now (text .entry)) (now (bytes .entry)) (now (ends .entry)) (now (body .entry)) (length (now (entries .entry)))) (length (now (out .entry)))) ⌝ }
+    ensures { λ _. ⌜ now (out .exit) ≡ exitOf (listing.list (optionsOf offsets labels texts) (now (text .entry)) (now (bytes .entry)) (now (ends .entry)) (now (body .entry)) (length (now (entries .entry)))) (now (out .entry)) ⌝ }
+    ensures { λ _. ⌜ now (entries .exit) ≡ replicate (length (now (entries .entry))) 0 ⌝ }
+{
+    list_numbers(disasm::operation::list(
+        offsets,
+        labels,
+        texts,
+        text,
+        bytes,
+        ends,
+        body,
+        out,
+        entries,
+    ))
 }

@@ -18,6 +18,14 @@ pub struct Number {
     pub value: u64,
 }
 
+/// What a listing shows.
+#[derive(Debug, Clone, Copy)]
+pub struct Shown {
+    pub offsets: bool,
+    pub labels: bool,
+    pub texts: bool,
+}
+
 impl Number {
     pub fn of(n: Option<u64>) -> Self {
         Number {
@@ -45,6 +53,23 @@ mod c {
             out_len: usize,
         ) -> Answer;
         pub fn desk_encode(text: *const u8, text_len: usize, words: *const u64, words_len: usize, out: *mut u8, out_len: usize) -> Answer;
+        pub fn desk_list(
+            text: *const u8,
+            text_len: usize,
+            bytes: *const u8,
+            bytes_len: usize,
+            ends: *const u32,
+            ends_len: usize,
+            body: *const u8,
+            body_len: usize,
+            offsets: bool,
+            labels: bool,
+            texts: bool,
+            out: *mut u8,
+            out_len: usize,
+            entries: *mut u32,
+            entries_len: usize,
+        ) -> Answer;
 
         pub fn part_parse_u32(text: *const u8, text_len: usize) -> Number;
         pub fn part_parse_hex(text: *const u8, text_len: usize) -> Number;
@@ -85,6 +110,28 @@ pub fn decode_function(text: &[u8], functions: &[u32], area: &[u8], base: u32, i
 
 pub fn encode(text: &[u8], words: &[u64], out: &mut [u8]) -> Answer {
     unsafe { c::desk_encode(text.as_ptr(), text.len(), words.as_ptr(), words.len(), out.as_mut_ptr(), out.len()) }
+}
+
+pub fn list(text: &[u8], bytes: &[u8], ends: &[u32], body: &[u8], shown: Shown, out: &mut [u8], entries: &mut [u32]) -> Answer {
+    unsafe {
+        c::desk_list(
+            text.as_ptr(),
+            text.len(),
+            bytes.as_ptr(),
+            bytes.len(),
+            ends.as_ptr(),
+            ends.len(),
+            body.as_ptr(),
+            body.len(),
+            shown.offsets,
+            shown.labels,
+            shown.texts,
+            out.as_mut_ptr(),
+            out.len(),
+            entries.as_mut_ptr(),
+            entries.len(),
+        )
+    }
 }
 
 pub fn parse_u32(text: &[u8]) -> Number {

@@ -5,6 +5,7 @@ mod bench;
 mod decode;
 mod desk;
 mod encode;
+mod listing;
 mod numbers;
 mod random;
 mod replay;
@@ -25,6 +26,7 @@ fn compare(seed: u64, count: u64) -> bool {
         decode::run(&mut r, count, &sheets, &large),
         decode::run_functions(&mut r, count / 10, &sheets),
         encode::run(&mut r, count, &sheets, &large),
+        listing::run(&mut r, count / 4, &sheets, &large),
     ];
     let compared: u64 = parts.iter().map(|p| p.0).sum();
     let differ: u64 = parts.iter().map(|p| p.1).sum();

@@ -47,8 +47,8 @@ pub fn type_code(word: &[u8]) -> u8
     0
 }
 
-// An entry of a table by type code, and 0 behind its end. The tables are byte strings, which stay where they are: an
-// array constant is built anew at each use.
+// An entry of a table by type code, and 0 behind its end. A table is made anew at each use, so that these are thirteen bytes
+// and not words; a loop over many codes makes its own table once, as the decoder does.
 fn entry(table: &[u8], code: u8) -> u8
     ensures { λ r. ⌜ r ≡ getD (now (table .entry)) code 0 ⌝ }
 {

@@ -3,3 +3,5 @@ pub mod OperationLaws
 pub mod FunctionLaws
 pub mod TitleLaws
 pub mod ModuleLaws
+pub mod ModuleLoop
+pub mod ModuleEnd

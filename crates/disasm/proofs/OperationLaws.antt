@@ -51,8 +51,8 @@ pub list-small : (o : Options) (text bytes ends body : List ℕ) (lent : ℕ) �
 unfolding list
 list-small o text bytes ends body lent h = rw (le-ltb 65536 (length body) h)
 
--- the number of `Ready` is none of the others
-no-tag : {P : Type 0} (n : ℕ) → (P → ⊥) → (0 ≡ suc n) ⊎ P → ⊥
+-- the number of the first variant, 0, is no other variant's
+pub no-tag : {P : Type 0} (n : ℕ) → (P → ⊥) → (0 ≡ suc n) ⊎ P → ⊥
 no-tag n f t = ⊎-elim (λ e. omega arith) f t
 
 pub not-ready : OneOf (1 ∷ 2 ∷ 3 ∷ []) 0 → ⊥

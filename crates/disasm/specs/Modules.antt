@@ -1,7 +1,7 @@
--- One function in a module's listing: what it answers and writes. Assumes nothing.
+-- A module's listing and one function in it: what they answer and write. Assumes nothing.
 use mathlib.Core.Path.{_≡_}
 use mathlib.Core.List.{List, [], _++_}
-use Prim.Native.Nat.{ℕ}
+use Prim.Native.Nat.{ℕ, _<_, _≤_}
 use lib.Dec.{ltb}
 use lib.ListN.{length}
 use Rattle.lists.specs.Choice.{pick}
@@ -36,3 +36,10 @@ titled o e last id name s =
     let title = banner id (functionName e name) in
     let body = listDecoded o e (text "  ") (decodeBody (e .types) last s) in
     pick (ltb 4096 (length title)) (refused 3 id 0) (append (append (listed (title ++ text "\n") 0) body) (listed (text "\n") 0))
+
+-- a module's listing x was written at the front: the buffer was `out` and is `out′`; "18 and 19 of the whole listing come
+-- last", so one over 1,048,576 is counted no further, and a function behind it may still be refused
+pub data ModuleWritten (x : Listed) (out : List ℕ) (out′ : List ℕ) (r : FunctionPart) : Type 0 where
+  within : (t : List ℕ) (k n : ℕ) → x ≡ listed t n → r ≡ part.Listed k n → k ≤ 1048576 → Put out 0 t out′ k → ModuleWritten x out out′ r
+  over : (t : List ℕ) (n : ℕ) → x ≡ listed t n → r ≡ part.Listed 1048577 n → 1048576 < length t → length out′ ≡ length out → ModuleWritten x out out′ r
+  ended : (n p : ℕ) → x ≡ refused n p 0 → partRefusal r ≡ refused n p 0 → length out′ ≡ length out → ModuleWritten x out out′ r

@@ -27,7 +27,7 @@ pub enum ListAnswer {
 }
 
 // The end of a listing of k bytes that needs `entries` label entries: 18, then 19.
-fn measure(k: usize, entries: usize, lent: usize, out: &mut [u8]) -> ListAnswer
+pub fn measure(k: usize, entries: usize, lent: usize, out: &mut [u8]) -> ListAnswer
     ensures { λ r. ⌜ ((t before : List ℕ) → Put before 0 t (now (out .entry)) k → Ended (listOutcome lent (listed t entries)) before (now (out .exit)) r) ⌝ }
 {
     if 1048576 < k {

@@ -1,3 +1,4 @@
 // What the desk program prints for a job: the whole of it, from the bytes of the job to the printed ones.
 pub mod answer;
 pub mod print;
+pub mod run;

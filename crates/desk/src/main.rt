@@ -1,0 +1,21 @@
+// The desk program: a job on standard input, what it prints on standard output.
+use libc::STDIN_FILENO;
+use libc::STDOUT_FILENO;
+
+// One byte more than a job may have, so that a longer one is seen. No contract, since the type says the length.
+fn job_space() -> [u8; 65537] {
+    [0; 65537]
+}
+
+// The output that the program lends.
+fn text_space() -> [u8; 65536] {
+    [0; 65536]
+}
+
+fn main() {
+    let mut job = job_space();
+    let n = io::read_full(STDIN_FILENO, &mut job);
+    let mut text = text_space();
+    let k = job::run::run(&job[..n], &mut text);
+    io::write_all(STDOUT_FILENO, &text[0..k]);
+}

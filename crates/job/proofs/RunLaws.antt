@@ -101,12 +101,12 @@ refused-length number place operand =
     )
 
 -- the text holds p at its front, over zs
-pub record Holds (p zs after : List ℕ) (r : ℕ) : Type 0 where
+pub record HoldsText (p zs after : List ℕ) (r : ℕ) : Type 0 where
   pub length-is : r ≡ length p
   pub text-is : after ≡ written p zs
   pub fits : r ≤ length after
 
-put-holds : (p zs after : List ℕ) (r : ℕ) → Put zs 0 p after r → length p ≤ length zs → Holds p zs after r
+put-holds : (p zs after : List ℕ) (r : ℕ) → Put zs 0 p after r → length p ≤ length zs → HoldsText p zs after r
 put-holds p zs after r w h =
     let size : r ≡ length p = omega (arith, w .next, w .small) in
     let inside : 0 + length p ≤ length zs = omega arith in
@@ -128,7 +128,7 @@ module _ (n m : ℕ) (lent : n ≡ outputLent) (room : n ≤ m) (after front : L
 
   module _ (p : List ℕ) (short : length p ≤ n) where
     -- a listing over the front
-    listing-holds : front ≡ written p (take n zs) → after ≡ front ++ drop n zs → r ≡ length p → Holds p zs after r
+    listing-holds : front ≡ written p (take n zs) → after ≡ front ++ drop n zs → r ≡ length p → HoldsText p zs after r
     listing-holds f e l =
         let taken : length (take n zs) ≡ n = length-take-le n zs (rw length-replicate room) in
         let inside : length p ≤ length (take n zs) = omega (arith, taken) in
@@ -137,12 +137,12 @@ module _ (n m : ℕ) (lent : n ≡ outputLent) (room : n ≤ m) (after front : L
         record { length-is = l; text-is = same; fits = rw same (omega (arith, l, length-append p (drop (length p) zs))) }
 
   -- a refusal over zeros
-  refusal-holds : (number place operand : ℕ) → front ≡ zeros (take n zs) → Put (front ++ drop n zs) 0 (refusedText number place operand) after r → Holds (refusedText number place operand) zs after r
+  refusal-holds : (number place operand : ℕ) → front ≡ zeros (take n zs) → Put (front ++ drop n zs) 0 (refusedText number place operand) after r → HoldsText (refusedText number place operand) zs after r
   refusal-holds number place operand f w =
       let clean : front ++ drop n zs ≡ zs = ap (λ (s : List ℕ). s ++ drop n zs) (f ∙ zeros-front n m) ∙ take-append-drop n zs in
       put-holds _ zs after r (rw clean at w) (rw length-replicate (omega (arith, lent, refused-length number place operand)))
 
-  outcome-holds : (x : Outcome) (a : ListAnswer) → Sound x → Ended x (take n zs) front a → Told (listReport a) (front ++ drop n zs) after r → Holds (printedOf x) zs after r
+  outcome-holds : (x : Outcome) (a : ListAnswer) → Sound x → Ended x (take n zs) front a → Told (listReport a) (front ++ drop n zs) after r → HoldsText (printedOf x) zs after r
   unfolding printedOf report exitOf
   outcome-holds x a (numbered number place operand h q) e t =
       let told : listReport a ≡ refusal number place operand = e .answer-is ∙ rw q refl in
@@ -164,13 +164,13 @@ module _ (n m : ℕ) (lent : n ≡ outputLent) (room : n ≤ m) (after front : L
 
 -- a job's answer, told over the text whose front was lent
 pub job-holds : (n : ℕ) (job before clean after front : List ℕ) (a : ListAnswer) (r : ℕ) → n ≡ outputLent → n ≤ length before → clean ≡ zeros before → Ended (jobOutcome job) (take n clean) front a
-    → Told (listReport a) (front ++ drop n clean) after r → Holds (runText job (length before)) (zeros before) after r
+    → Told (listReport a) (front ++ drop n clean) after r → HoldsText (runText job (length before)) (zeros before) after r
 unfolding printed
 job-holds n job before clean after front a r q h z e t =
     rw (le-ltb (length before) outputLent (omega (arith, q))) (outcome-holds n (length before) q h after front r (jobOutcome job) a (job-sound job) (rw z at e) (rw z at t))
 
 -- a text that is too short
-pub job-none : (job before after : List ℕ) → length before < outputLent → after ≡ zeros before → Holds (runText job (length before)) (zeros before) after 0
+pub job-none : (job before after : List ℕ) → length before < outputLent → after ≡ zeros before → HoldsText (runText job (length before)) (zeros before) after 0
 job-none job before after h e = rw (lt-ltb (length before) outputLent h) (record { length-is = refl; text-is = e; fits = omega arith })
 
 -- the two ways to tell an answer

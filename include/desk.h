@@ -55,6 +55,21 @@ struct desk_answer desk_list(const uint8_t *sheet, size_t sheet_len, const uint8
                              bool labels, bool texts, uint8_t *out, size_t out_len, uint32_t *entries,
                              size_t entries_len);
 
+/* The same for function number id of an area. */
+struct desk_answer desk_list_function(const uint8_t *sheet, size_t sheet_len, const uint8_t *bytes, size_t bytes_len,
+                                      const uint32_t *ends, size_t ends_len, const uint32_t *functions,
+                                      size_t functions_len, const uint8_t *area, size_t area_len, uint32_t base,
+                                      size_t id, bool offsets, bool labels, bool texts, uint8_t *out, size_t out_len,
+                                      uint32_t *entries, size_t entries_len);
+
+/* Lists all functions of an area, each under a line that names it. Label entries are needed for one function at a time:
+   as many as the function with the most different label offsets has. */
+struct desk_answer desk_list_module(const uint8_t *sheet, size_t sheet_len, const uint8_t *bytes, size_t bytes_len,
+                                    const uint32_t *ends, size_t ends_len, const uint32_t *functions,
+                                    size_t functions_len, const uint8_t *area, size_t area_len, uint32_t base,
+                                    bool offsets, bool labels, bool texts, uint8_t *out, size_t out_len,
+                                    uint32_t *entries, size_t entries_len);
+
 #ifdef __cplusplus
 }
 #endif

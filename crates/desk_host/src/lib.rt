@@ -11,6 +11,7 @@ ghost use Rattle.spec_answers.specs.Report.{refusal, success};
 ghost use Rattle.spec_listing.specs.Operation as listing;
 ghost use Rattle.listing.specs.Parts.{optionsOf};
 ghost use Rattle.disasm.specs.Answers.{listReport};
+ghost use Rattle.disasm.specs.Functions.{areaOf};
 use decode::instructions::DecodeAnswer;
 use disasm::answer::ListAnswer;
 use encode::encode::EncodeAnswer;
@@ -153,6 +154,76 @@ pub extern "C" fn desk_list(
         bytes,
         ends,
         body,
+        out,
+        entries,
+    ))
+}
+
+// Lists one function of an area; offsets count from `base`.
+#[no_mangle]
+pub extern "C" fn desk_list_function(
+    text: &[u8],
+    bytes: &[u8],
+    ends: &[u32],
+    functions: &[u32],
+    area: &[u8],
+    base: u32,
+    id: usize,
+    offsets: bool,
+    labels: bool,
+    texts: bool,
+    out: &mut [u8],
+    entries: &mut [u32],
+) -> DeskAnswer
+    ensures { λ r. ⌜ r ≡ numbersOf (report (listing.listFunction (optionsOf offsets labels texts) (now (text .entry)) (now (bytes .entry)) (now (ends .entry)) (areaOf (now (functions .entry)) (now (area .entry)) base) id (length (now (entries .entry)))) (length (now (out .entry)))) ⌝ }
+    ensures { λ _. ⌜ now (out .exit) ≡ exitOf (listing.listFunction (optionsOf offsets labels texts) (now (text .entry)) (now (bytes .entry)) (now (ends .entry)) (areaOf (now (functions .entry)) (now (area .entry)) base) id (length (now (entries .entry)))) (now (out .entry)) ⌝ }
+    ensures { λ _. ⌜ now (entries .exit) ≡ replicate (length (now (entries .entry))) 0 ⌝ }
+{
+    list_numbers(disasm::function::list_function(
+        offsets,
+        labels,
+        texts,
+        text,
+        bytes,
+        ends,
+        functions,
+        area,
+        base,
+        id,
+        out,
+        entries,
+    ))
+}
+
+// Lists all functions of an area, each under its banner.
+#[no_mangle]
+pub extern "C" fn desk_list_module(
+    text: &[u8],
+    bytes: &[u8],
+    ends: &[u32],
+    functions: &[u32],
+    area: &[u8],
+    base: u32,
+    offsets: bool,
+    labels: bool,
+    texts: bool,
+    out: &mut [u8],
+    entries: &mut [u32],
+) -> DeskAnswer
+    ensures { λ r. ⌜ r ≡ numbersOf (report (listing.listModule (optionsOf offsets labels texts) (now (text .entry)) (now (bytes .entry)) (now (ends .entry)) (areaOf (now (functions .entry)) (now (area .entry)) base) (length (now (entries .entry)))) (length (now (out .entry)))) ⌝ }
+    ensures { λ _. ⌜ now (out .exit) ≡ exitOf (listing.listModule (optionsOf offsets labels texts) (now (text .entry)) (now (bytes .entry)) (now (ends .entry)) (areaOf (now (functions .entry)) (now (area .entry)) base) (length (now (entries .entry)))) (now (out .entry)) ⌝ }
+    ensures { λ _. ⌜ now (entries .exit) ≡ replicate (length (now (entries .entry))) 0 ⌝ }
+{
+    list_numbers(disasm::module::list_module(
+        offsets,
+        labels,
+        texts,
+        text,
+        bytes,
+        ends,
+        functions,
+        area,
+        base,
         out,
         entries,
     ))

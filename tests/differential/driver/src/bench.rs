@@ -1,10 +1,12 @@
 // Times both sides on the same inputs in one process, turn by turn, and prints medians of the ratio.
 
-use crate::desk;
+use crate::desk::{self, Shown};
+use crate::listing;
 use crate::random::Random;
 use crate::rust;
 use crate::sheets::{self, Sheet};
 use crate::texts::table_of;
+use hbc_decomp::disasm::{collect_label_offsets, disassemble_function};
 use hbc_decomp::opcode::BytecodeFormat;
 use hbc_decomp::write::encode::encode_function_body;
 use std::collections::HashMap;
@@ -144,6 +146,40 @@ fn table(what: &str, sheets: &[(usize, Sheet)], f: impl Fn(&Input) -> Timed) {
     }
 }
 
+/// Default listings: the Rust has its format and strings at hand; the desk reads its sheet and looks at its table each time.
+fn listings(sheets: &[(usize, Sheet)], strings: usize) {
+    heading(&format!("Listing, the Rust's format read before, {strings} strings"));
+    let texts: Vec<String> = (0..strings).map(|n| format!("cell {n}")).collect();
+    let (bytes, ends) = table_of(&texts);
+    let shown = Shown { offsets: true, labels: true, texts: true };
+    for (count, sheet) in sheets {
+        let mut r = Random::new(7);
+        let mut grown = Vec::new();
+        for size in SIZES {
+            let body = listing::body(&mut r, sheet, strings, size);
+            let mut f = rust::file_of(&body);
+            rust::set_strings(&mut f, &texts);
+            let text = disassemble_function(&f, &sheet.format, 0, &listing::options(shown)).unwrap();
+            let list = f.decode_function_instructions(&sheet.format, 0).unwrap();
+            let mut out = vec![0u8; text.len()];
+            let mut entries = vec![0u32; collect_label_offsets(&list, &sheet.format).len()];
+            let answer = desk::list(&sheet.text, &bytes, &ends, &body, shown, &mut out, &mut entries);
+            assert!(text.len() > 1_048_576 || answer == rust::success(text.len()));
+            let t = both(
+                || {
+                    black_box(disassemble_function(&f, &sheet.format, 0, &listing::options(shown)).unwrap());
+                },
+                || {
+                    black_box(desk::list(&sheet.text, &bytes, &ends, &body, shown, &mut out, &mut entries));
+                },
+            );
+            row(&format!("{size} bytes, {count} opcodes, listing of {}", text.len()), &t);
+            grown.push(t.desk);
+        }
+        println!("| growth of the desk from 8 KiB to 64 KiB, {count} opcodes | | {:.1} times | |", grown[3] / grown[2]);
+    }
+}
+
 /// The Rust makes a map of the table first and then looks up; the desk searches.
 fn lookups() {
     heading("Looking up one text, the Rust's map being made in the call");
@@ -175,5 +211,7 @@ pub fn run() {
     table("Decoding, both reading their sheet in each call", &sheets, decoding_from_text);
     table("Encoding, the Rust's format read before", &sheets, encoding);
     table("Encoding, both reading their sheet in each call", &sheets, encoding_from_text);
+    listings(&sheets, 16);
+    listings(&sheets, 65536);
     lookups();
 }

@@ -70,6 +70,47 @@ mod c {
             entries: *mut u32,
             entries_len: usize,
         ) -> Answer;
+        pub fn desk_list_function(
+            text: *const u8,
+            text_len: usize,
+            bytes: *const u8,
+            bytes_len: usize,
+            ends: *const u32,
+            ends_len: usize,
+            functions: *const u32,
+            functions_len: usize,
+            area: *const u8,
+            area_len: usize,
+            base: u32,
+            id: usize,
+            offsets: bool,
+            labels: bool,
+            texts: bool,
+            out: *mut u8,
+            out_len: usize,
+            entries: *mut u32,
+            entries_len: usize,
+        ) -> Answer;
+        pub fn desk_list_module(
+            text: *const u8,
+            text_len: usize,
+            bytes: *const u8,
+            bytes_len: usize,
+            ends: *const u32,
+            ends_len: usize,
+            functions: *const u32,
+            functions_len: usize,
+            area: *const u8,
+            area_len: usize,
+            base: u32,
+            offsets: bool,
+            labels: bool,
+            texts: bool,
+            out: *mut u8,
+            out_len: usize,
+            entries: *mut u32,
+            entries_len: usize,
+        ) -> Answer;
 
         pub fn part_parse_u32(text: *const u8, text_len: usize) -> Number;
         pub fn part_parse_hex(text: *const u8, text_len: usize) -> Number;
@@ -123,6 +164,65 @@ pub fn list(text: &[u8], bytes: &[u8], ends: &[u32], body: &[u8], shown: Shown, 
             ends.len(),
             body.as_ptr(),
             body.len(),
+            shown.offsets,
+            shown.labels,
+            shown.texts,
+            out.as_mut_ptr(),
+            out.len(),
+            entries.as_mut_ptr(),
+            entries.len(),
+        )
+    }
+}
+
+/// The functions of an area.
+#[derive(Clone, Copy)]
+pub struct Area<'a> {
+    pub functions: &'a [u32],
+    pub bytes: &'a [u8],
+    pub base: u32,
+}
+
+pub fn list_function(text: &[u8], bytes: &[u8], ends: &[u32], area: Area, id: usize, shown: Shown, out: &mut [u8], entries: &mut [u32]) -> Answer {
+    unsafe {
+        c::desk_list_function(
+            text.as_ptr(),
+            text.len(),
+            bytes.as_ptr(),
+            bytes.len(),
+            ends.as_ptr(),
+            ends.len(),
+            area.functions.as_ptr(),
+            area.functions.len(),
+            area.bytes.as_ptr(),
+            area.bytes.len(),
+            area.base,
+            id,
+            shown.offsets,
+            shown.labels,
+            shown.texts,
+            out.as_mut_ptr(),
+            out.len(),
+            entries.as_mut_ptr(),
+            entries.len(),
+        )
+    }
+}
+
+pub fn list_module(text: &[u8], bytes: &[u8], ends: &[u32], area: Area, shown: Shown, out: &mut [u8], entries: &mut [u32]) -> Answer {
+    unsafe {
+        c::desk_list_module(
+            text.as_ptr(),
+            text.len(),
+            bytes.as_ptr(),
+            bytes.len(),
+            ends.as_ptr(),
+            ends.len(),
+            area.functions.as_ptr(),
+            area.functions.len(),
+            area.bytes.as_ptr(),
+            area.bytes.len(),
+            area.base,
             shown.offsets,
             shown.labels,
             shown.texts,

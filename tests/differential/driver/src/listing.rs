@@ -10,10 +10,10 @@ use hbc_decomp::disasm::{collect_label_offsets, disassemble_function, DisasmOpti
 use hbc_decomp::file::BytecodeFile;
 use std::cell::RefCell;
 
-const DOUBLE: usize = 11;
+pub const DOUBLE: usize = 11;
 
 /// What label entries hold before a call.
-const ENTRY: u32 = 0xa5a5_a5a5;
+pub const ENTRY: u32 = 0xa5a5_a5a5;
 
 /// What is lent beyond what is needed, or less.
 #[derive(Clone, Copy, Debug)]
@@ -89,7 +89,7 @@ pub fn shown(r: &mut Random) -> Shown {
 }
 
 /// The offset of the first instruction whose line is over 4,096 bytes.
-fn long_line(f: &BytecodeFile, sheet: &Sheet, text: &str, indent: usize) -> Option<usize> {
+pub fn long_line(f: &BytecodeFile, sheet: &Sheet, text: &str, indent: usize) -> Option<usize> {
     let list = f.decode_function_instructions(&sheet.format, 0).ok()?;
     let is_instruction = |l: &&str| !(l.starts_with('L') && l.ends_with(':') && !l.contains(' '));
     let lines = text.lines().filter(is_instruction);
@@ -97,13 +97,13 @@ fn long_line(f: &BytecodeFile, sheet: &Sheet, text: &str, indent: usize) -> Opti
     Some(list[at].offset as usize)
 }
 
-fn entries_of(f: &BytecodeFile, sheet: &Sheet, id: u32, shown: Shown) -> usize {
+pub fn entries_of(f: &BytecodeFile, sheet: &Sheet, id: u32, shown: Shown) -> usize {
     let list = f.decode_function_instructions(&sheet.format, id).unwrap_or_default();
     if shown.labels { collect_label_offsets(&list, &sheet.format).len() } else { 0 }
 }
 
 /// An answer with document 01's limits and lent space around it.
-fn around(told: Result<String, Answer>, needed: usize, spare: Spare) -> Run {
+pub fn around(told: Result<String, Answer>, needed: usize, spare: Spare) -> Run {
     let length = told.as_ref().map_or(20, |t| t.len());
     let room = (length as i64 + spare.bytes).max(0) as usize;
     let lent = (needed as i64 + spare.entries).max(0) as usize;

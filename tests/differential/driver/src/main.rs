@@ -6,6 +6,7 @@ mod decode;
 mod desk;
 mod encode;
 mod listing;
+mod modules;
 mod numbers;
 mod random;
 mod replay;
@@ -27,6 +28,7 @@ fn compare(seed: u64, count: u64) -> bool {
         decode::run_functions(&mut r, count / 10, &sheets),
         encode::run(&mut r, count, &sheets, &large),
         listing::run(&mut r, count / 4, &sheets, &large),
+        modules::run(&mut r, count / 10, &sheets),
     ];
     let compared: u64 = parts.iter().map(|p| p.0).sum();
     let differ: u64 = parts.iter().map(|p| p.1).sum();

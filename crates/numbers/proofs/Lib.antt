@@ -2,3 +2,4 @@ pub mod AnswerLaws
 pub mod ByteSums
 pub mod RoomLaws
 pub mod WidthLaws
+pub mod PrintTurns

@@ -1,12 +1,14 @@
 // Numbers as text, through the counting writer.
 ghost use mathlib.Core.Path.{_≡_};
-ghost use Prim.Native.Nat.{_-_, _<_, _≤_};
+ghost use mathlib.Core.List.{[], _∷_};
+ghost use Prim.Native.Nat.{_+_, _-_, _<_, _≤_, _/_, _%_};
 ghost use lib.Dec.{ltb, leb};
 ghost use Rattle.lists.specs.Choice.{both};
 ghost use Rattle.lists.specs.Write.{Put};
 ghost use Rattle.spec_numbers.specs.Print.{digit, digits, padded, decimal, signedDecimal, hexUpper, hexLower4, hexUpper4, hexUpper16};
 ghost use Rattle.spec_numbers.specs.TwosComplement.{signed};
 use slices::write::put_byte;
+use slices::write::put_bytes;
 
 // The character of a digit; letters from `letter` on.
 fn digit_char(d: u64, letter: u8) -> u8
@@ -21,10 +23,10 @@ fn digit_char(d: u64, letter: u8) -> u8
 }
 
 // No digit stands in front of this one.
-fn first_digit(n: u64, base: u64, least: usize) -> bool
-    ensures { λ r. ⌜ r ≡ both (ltb n base) (leb least 1) ⌝ }
+fn first_digit(n: u64, least: usize) -> bool
+    ensures { λ r. ⌜ r ≡ both (ltb n 16) (leb least 1) ⌝ }
 {
-    if n < base {
+    if n < 16 {
         return least <= 1;
     }
     false
@@ -40,45 +42,70 @@ fn one_less(least: usize) -> usize
     least - 1
 }
 
-// Writes n in a base with at least `least` digits. The front is written first, so nothing has to be turned round.
-fn put_digits(out: &mut [u8], at: usize, n: u64, base: u64, letter: u8, least: usize) -> usize
-    requires { ⌜ (2 ≤ base) × (base ≤ 16) × (letter ≤ 97) ⌝ }
-    ensures { λ r. ⌜ Put (now (out .entry)) at (padded least (digits base letter 64 n)) (now (out .exit)) r ⌝ }
-{
-    if first_digit(n, base, least) {
-        return put_byte(out, at, digit_char(n, letter));
-    }
-    let k = put_digits(out, at, n / base, base, letter, one_less(least));
-    put_byte(out, k, digit_char(n % base, letter))
-}
-
-// Writes n in decimal.
-pub fn put_decimal(out: &mut [u8], at: usize, n: u64) -> usize
-    ensures { λ r. ⌜ Put (now (out .entry)) at (decimal n) (now (out .exit)) r ⌝ }
-{
-    put_digits(out, at, n, 10, 97, 0)
-}
-
-// Writes n in hexadecimal with letters from `letter` on ('a' is 97, 'A' is 65) and at least `least` digits.
+// Writes n in hexadecimal with letters from `letter` on ('a' is 97, 'A' is 65) and at least `least` digits. The front is
+// written first, so nothing has to be turned round.
 pub fn put_hex(out: &mut [u8], at: usize, n: u64, letter: u8, least: usize) -> usize
     requires { ⌜ letter ≤ 97 ⌝ }
     ensures { λ r. ⌜ Put (now (out .entry)) at (padded least (digits 16 letter 16 n)) (now (out .exit)) r ⌝ }
 {
-    put_digits(out, at, n, 16, letter, least)
+    if first_digit(n, least) {
+        return put_byte(out, at, digit_char(n, letter));
+    }
+    let k = put_hex(out, at, n / 16, letter, one_less(least));
+    put_byte(out, k, digit_char(n % 16, letter))
+}
+
+// The two digits of a number below 100.
+fn put_pair(out: &mut [u8], at: usize, n: u64) -> usize
+    requires { ⌜ n < 100 ⌝ }
+    ensures { λ r. ⌜ Put (now (out .entry)) at ((48 + n / 10) ∷ (48 + n % 10) ∷ []) (now (out .exit)) r ⌝ }
+{
+    let pair = [48 + (n / 10) as u8, 48 + (n % 10) as u8];
+    put_bytes(out, at, &pair)
+}
+
+// Writes n in decimal, two digits at a time.
+pub fn put_decimal(out: &mut [u8], at: usize, n: u64) -> usize
+    ensures { λ r. ⌜ Put (now (out .entry)) at (decimal n) (now (out .exit)) r ⌝ }
+{
+    if n < 10 {
+        return put_byte(out, at, 48 + (n as u8));
+    }
+    if n < 100 {
+        return put_pair(out, at, n);
+    }
+    let k = put_decimal(out, at, n / 100);
+    put_pair(out, k, n % 100)
+}
+
+// At least four digits, which are written at once where there are no more.
+fn put_hex4(out: &mut [u8], at: usize, n: u64, letter: u8) -> usize
+    requires { ⌜ letter ≤ 97 ⌝ }
+    ensures { λ r. ⌜ Put (now (out .entry)) at (padded 4 (digits 16 letter 16 n)) (now (out .exit)) r ⌝ }
+{
+    if n < 65536 {
+        let a = digit_char(n / 4096, letter);
+        let b = digit_char(n / 256 % 16, letter);
+        let c = digit_char(n / 16 % 16, letter);
+        let d = digit_char(n % 16, letter);
+        let four = [a, b, c, d];
+        return put_bytes(out, at, &four);
+    }
+    put_hex(out, at, n, letter, 4)
 }
 
 // Writes `{:04x}`.
 pub fn put_hex_lower4(out: &mut [u8], at: usize, n: u64) -> usize
     ensures { λ r. ⌜ Put (now (out .entry)) at (hexLower4 n) (now (out .exit)) r ⌝ }
 {
-    put_hex(out, at, n, 97, 4)
+    put_hex4(out, at, n, 97)
 }
 
 // Writes `{:04X}`.
 pub fn put_hex_upper4(out: &mut [u8], at: usize, n: u64) -> usize
     ensures { λ r. ⌜ Put (now (out .entry)) at (hexUpper4 n) (now (out .exit)) r ⌝ }
 {
-    put_hex(out, at, n, 65, 4)
+    put_hex4(out, at, n, 65)
 }
 
 // Writes `{:016X}`.

@@ -2,6 +2,7 @@
 // needed is known exactly when everything has been written once.
 ghost use mathlib.Core.Path.{_≡_};
 ghost use mathlib.Core.List.{List, [], _∷_};
+ghost use Prim.Native.Nat.{_+_, _≤_};
 ghost use lib.ListN.{length, replicate};
 ghost use Rattle.lists.specs.Write.{Put};
 
@@ -16,8 +17,21 @@ pub fn put_byte(out: &mut [u8], at: usize, b: u8) -> usize
     if at < usize::MAX { at + 1 } else { at }
 }
 
-// Writes the bytes of s.
-pub fn put_bytes(out: &mut [u8], at: usize, s: &[u8]) -> usize
+// Writes the bytes of s where they fit.
+fn copy_bytes(out: &mut [u8], at: usize, s: &[u8]) -> usize
+    requires { ⌜ at + length (now s) ≤ length (now out) ⌝ }
+    ensures { λ r. ⌜ Put (now (out .entry)) at (now (s .entry)) (now (out .exit)) r ⌝ }
+{
+    let mut i: usize = 0;
+    while i < s.len() {
+        out[at + i] = s[i];
+        i += 1;
+    }
+    at + i
+}
+
+// Writes the bytes of s, as far as they fit.
+fn count_bytes(out: &mut [u8], at: usize, s: &[u8]) -> usize
     ensures { λ r. ⌜ Put (now (out .entry)) at (now (s .entry)) (now (out .exit)) r ⌝ }
 {
     let mut k = at;
@@ -27,6 +41,18 @@ pub fn put_bytes(out: &mut [u8], at: usize, s: &[u8]) -> usize
         i += 1;
     }
     k
+}
+
+// Writes the bytes of s. Where all of them fit, which is the common case, no byte asks for its place.
+pub fn put_bytes(out: &mut [u8], at: usize, s: &[u8]) -> usize
+    ensures { λ r. ⌜ Put (now (out .entry)) at (now (s .entry)) (now (out .exit)) r ⌝ }
+{
+    if at < out.len() {
+        if s.len() <= out.len() - at {
+            return copy_bytes(out, at, s);
+        }
+    }
+    count_bytes(out, at, s)
 }
 
 // Sets every byte to 0, as a refusal leaves a lent buffer.

@@ -2,7 +2,7 @@
 use mathlib.Core.Path.{_≡_, refl, ap, sym, _∙_}
 use mathlib.Core.Bool.{Bool, true, false}
 use Prim.Native.Nat.{ℕ, zero, suc, _+_, _-_, _/_, _%_, _^_, _≤_, _<_}
-use native.Mathlib.Nat.{pow-suc, pow-zero, one-mul, div-lt-iff-lt-mul, le-div-iff-mul-le, mod-lt, lt-of-lt-of-le, pow-le-pow-left, pow-le-pow-right, div-eq-of-lt, div-le-self, div-lt-self, mod-eq-of-lt}
+use native.Mathlib.Nat.{pow-suc, pow-zero, one-mul, div-lt-iff-lt-mul, le-div-iff-mul-le, mod-lt, lt-of-lt-of-le, pow-le-pow-right, div-eq-of-lt, div-le-self, div-lt-self, mod-eq-of-lt}
 use native.Mathlib.Omega.{arith}
 use mathlib.Core.List.{List, [], _∷_, _++_, append-assoc}
 use lib.ListN.{length, getD, replicate, length-append, length-replicate, List·getD-append, replicate-append-replicate}
@@ -178,18 +178,9 @@ module _ (base letter : ℕ) (some : 0 < base) (w : ℕ) where
       (λ m. let q : n / base < n = div-lt-self (omega arith) b in omega arith)
       (λ m. omega (arith, div-le-self n base, leb-false w 1 (rw (lt-ltb n base m) at e)))
 
--- every u64 has its digits within 64, so the definitions' own fuel is enough
-pub u64-digits : (base letter j n : ℕ) → 2 ≤ base → n < 2 ^ 64 → n < base ^ suc j → digits base letter 64 n ≡ digits base letter (suc j) n
-u64-digits base letter j n b h g = digits-fuel base letter (omega arith) 63 j n (lt-of-lt-of-le h (pow-le-pow-left b 64)) g
-
 -- a text with no zeros asked for
 pub unpadded : (s : List ℕ) → padded 0 s ≡ s
 unpadded s = padded-long 0 s (omega arith)
-
--- decimal text is the digits of a u64 in base 10
-pub decimal-digits : (n : ℕ) → n < 2 ^ 64 → padded 0 (digits 10 97 64 n) ≡ decimal n
-unfolding decimal
-decimal-digits n h = unpadded (digits 10 97 64 n) ∙ u64-digits 10 97 19 n (omega arith) h (omega arith)
 
 -- a signed number that is not negative is its decimal
 pub signed-decimal : (b : ℕ) → b < 2 ^ 31 → signedDecimal (signed 32 b) ≡ decimal b

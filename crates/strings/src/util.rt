@@ -10,7 +10,7 @@ ghost use Rattle.lists.specs.Write.{Put};
 ghost use Rattle.spec_strings.specs.Utf8.{leadBits, bitsAfter};
 ghost use Rattle.spec_strings.specs.Escape.{escaped, unicode, escape, escapeText, quoted, meant, unescape};
 ghost use Rattle.spec_strings.specs.Plain.{plainByte, plain};
-ghost use Rattle.strings.specs.Turns.{wholeText, carriedBits, readText, slashAfter};
+ghost use Rattle.strings.specs.Turns.{wholeText, carriedBits, readText, slashAfter, bare};
 use crate::utf8::step;
 use numbers::print::put_hex_upper;
 use numbers::print::put_hex_upper4;
@@ -133,7 +133,7 @@ fn carried(st: u8, bits: u32) -> u32
 }
 
 // One pass over the bytes: the reader's state, and the bits of the character begun.
-pub fn put_escaped_text(out: &mut [u8], at: usize, s: &[u8]) -> usize
+fn put_characters(out: &mut [u8], at: usize, s: &[u8]) -> usize
     ensures { λ r. ⌜ Put (now (out .entry)) at (escapeText (now (s .entry))) (now (out .exit)) r ⌝ }
 {
     let mut k = at;
@@ -152,6 +152,42 @@ pub fn put_escaped_text(out: &mut [u8], at: usize, s: &[u8]) -> usize
         i += 1;
     }
     k
+}
+
+// A byte that is a whole character and stands for itself.
+fn is_bare(b: u8) -> bool
+    ensures { λ r. ⌜ r ≡ bare b ⌝ }
+{
+    if b == 34 {
+        return false;
+    }
+    if b == 92 {
+        return false;
+    }
+    slices::compare::is_within(32, 126, b)
+}
+
+fn all_bare(s: &[u8]) -> bool
+    ensures { λ r. ⌜ r ≡ all bare (now (s .entry)) ⌝ }
+{
+    let mut i: usize = 0;
+    while i < s.len() {
+        if !is_bare(s[i]) {
+            return false;
+        }
+        i += 1;
+    }
+    true
+}
+
+// Writes a text with its escapes. Most have none and are copied.
+pub fn put_escaped_text(out: &mut [u8], at: usize, s: &[u8]) -> usize
+    ensures { λ r. ⌜ Put (now (out .entry)) at (escapeText (now (s .entry))) (now (out .exit)) r ⌝ }
+{
+    if all_bare(s) {
+        return put_bytes(out, at, s);
+    }
+    put_characters(out, at, s)
 }
 
 pub fn put_quoted(out: &mut [u8], at: usize, s: &[u8]) -> usize

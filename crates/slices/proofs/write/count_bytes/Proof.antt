@@ -7,8 +7,8 @@ use Prim.Native.Nat.{_-_, _≤_}
 use mathlib.Core.Path.{sym}
 use native.Mathlib.Omega.{arith}
 use borrow.Author.Needs.{needs}
-use Rattle.slices.proofs.write.put_bytes.Statement.{statement}
-use Rattle.slices.proofs.write.put_bytes.Tie as tie
+use Rattle.slices.proofs.write.count_bytes.Statement.{statement}
+use Rattle.slices.proofs.write.count_bytes.Tie as tie
 
 abbrev Inv-loop : tie.InvT-loop
 Inv-loop out₀ at s k₀ i₀ out k i = (i ≤ length s) × Put out₀ at (take i s) out k
@@ -44,8 +44,8 @@ same-length c = kept-length (c .before .loop .inv .1)
 returns : tie.Need-returns Inv-loop μ-loop
 returns c = same-piece (take-all _ _ (c .loop-test .left)) (c .before .loop .inv .1)
 
-pub put-bytes-spec : {M : Type 1} → statement M
-put-bytes-spec =
+pub count-bytes-spec : {M : Type 1} → statement M
+count-bytes-spec =
     tie.close
     (tie.spec
     Inv-loop

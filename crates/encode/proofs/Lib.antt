@@ -1,9 +1,3 @@
-pub mod OperandLaws
-pub mod ShapeLaws
-pub mod PlainLaws
-pub mod AheadLaws
-pub mod PlainWrites
-pub mod PlainRecords
 pub mod OperandsLoop
 pub mod RecordLaws
 pub mod RecordsLoop

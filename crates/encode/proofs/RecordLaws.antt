@@ -12,12 +12,13 @@ use Rattle.lists.proofs.Tests.{both-left}
 use Rattle.lists.proofs.Parts.{part-at, part-length}
 use Rattle.spec_body.specs.Record.{countOf}
 use Rattle.spec_body.specs.Encode.{Encoded, goodShape, encodeOperands, withOperands, encodeRecord}
-use Rattle.encode.specs.Encoding.{recordAt, pairsAt, PlainPut, Operanded, Turn, encodeReport}
-use Rattle.encode.specs.Plain.{plainRecord}
+use Rattle.write_operands.specs.Ahead.{recordAt, pairsAt, PlainPut}
+use Rattle.encode.specs.Encoding.{Operanded, Turn, encodeReport}
+use Rattle.write_operands.specs.Plain.{plainRecord}
 use Rattle.encode.specs.Encoding.Operanded.{whole, misfits}
 use Rattle.encode.specs.Encoding.Turn.{went, stopped}
-use Rattle.encode.proofs.AheadLaws.{not-ahead, more-ahead}
-use Rattle.encode.proofs.PlainRecords.{plain-encoded}
+use Rattle.write_operands.proofs.AheadLaws.{not-ahead, more-ahead}
+use Rattle.write_operands.proofs.PlainRecords.{plain-encoded}
 use Rattle.encode.specs.declared.encode.EncodeAnswer.{EncodeAnswer}
 use Rattle.encode.specs.declared.encode.EncodeAnswer.the-variants.{Done, Shape, Beyond, Count, Misfit}
 use Rattle.encode.specs.declared.encode.Wrote.{Wrote}

@@ -13,8 +13,9 @@ use Rattle.lists.proofs.Tests.{by-eqb}
 use Rattle.spec_answers.specs.Report.{Report, refusal}
 use Rattle.spec_body.specs.Encode.{Encoded, appendTo, encodeRecord, encodeFrom, encodeRecords}
 use Rattle.spec_body.specs.Encode.Encoded.{encoded, refused}
-use Rattle.encode.specs.Encoding.{recordAt, Ahead, Turn, Encoding, encodeReport}
-use Rattle.encode.proofs.AheadLaws.{_and-then_, not-ahead, none-ahead, more-ahead}
+use Rattle.write_operands.specs.Ahead.{recordAt, Ahead}
+use Rattle.encode.specs.Encoding.{Turn, Encoding, encodeReport}
+use Rattle.write_operands.proofs.AheadLaws.{_and-then_, not-ahead, none-ahead, more-ahead}
 use Rattle.encode.specs.Encoding.Turn.{went, stopped}
 use Rattle.encode.specs.Encoding.Encoding.{all, refuses}
 use Rattle.encode.specs.declared.encode.EncodeAnswer.{EncodeAnswer}

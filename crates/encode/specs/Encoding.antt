@@ -1,15 +1,13 @@
 -- What the functions that encode answer, and what they write. Assumes nothing.
 use mathlib.Core.Path.{_≡_}
-use mathlib.Core.List.{List, [], _∷_, _++_}
-use Prim.Native.Nat.{ℕ, _+_, _≤_, _<_, min}
-use lib.ListN.{length, take, drop, getD}
-use Rattle.lists.specs.Scan.{part}
-use Rattle.lists.specs.Write.{Put, put, top}
+use mathlib.Core.List.{List, _∷_}
+use Prim.Native.Nat.{ℕ, _<_}
+use Rattle.lists.specs.Write.{Put}
 use Rattle.spec_answers.specs.Report.{Report, refusal, success}
 use Rattle.spec_body.specs.Encode.{Operands, Encoded, appendTo}
 use Rattle.spec_body.specs.Encode.Operands.{bytes, misfit}
 use Rattle.spec_body.specs.Encode.Encoded.{encoded, refused}
-use Rattle.encode.specs.Plain.{plainBytes}
+use Rattle.write_operands.specs.Ahead.{Ahead}
 use Rattle.encode.specs.declared.encode.EncodeAnswer.{EncodeAnswer}
 use Rattle.encode.specs.declared.encode.EncodeAnswer.the-variants.{Done, Malformed, Shape, Beyond, Count, Misfit, TooLarge, Short}
 use Rattle.encode.specs.declared.encode.Wrote as answer
@@ -25,28 +23,6 @@ encodeReport (Count i) = refusal 5 i 0
 encodeReport (Misfit i q) = refusal 15 i q
 encodeReport TooLarge = refusal 18 0 0
 encodeReport Short = refusal 19 0 0
-
--- the 20 words of the record at a place, and its pairs
-abbrev pub recordAt : List ℕ → ℕ → List ℕ
-recordAt words at = part words at 20
-
-abbrev pub pairsAt : List ℕ → ℕ → List ℕ
-pairsAt words at = drop 4 (recordAt words at)
-
--- `s` was written at `at`, and at most `spare` bytes behind it, which the next to be written go over: the buffer was `out`
--- and is `out′`, and the next position is `r`
-pub record Ahead (out : List ℕ) (at : ℕ) (s : List ℕ) (spare : ℕ) (out′ : List ℕ) (r : ℕ) : Type 0 where
-  pub small : length out ≤ top
-  pub next : r ≡ min (at + length s) top
-  pub behind : List ℕ
-  pub few : length behind ≤ spare
-  pub bytes : out′ ≡ put out at (s ++ behind)
-
--- the plain record at a place was written so, under its row of eight types
-abbrev pub PlainPut : List (List ℕ) → List ℕ → ℕ → List ℕ → ℕ → List ℕ → ℕ → Type 0
-PlainPut types words place out at out′ r =
-    let row = getD types (getD words (place + 1) 0) [] in
-    (Ahead out at (getD words (place + 1) 0 ∷ plainBytes (take 4 row) (pairsAt words place)) 8 out′ r) × (length row ≡ 8)
 
 -- operands that come to x were written at `at`: the buffer was `out` and is `out′`, and r was answered
 pub data Operanded (x : Operands) (out : List ℕ) (at : ℕ) (out′ : List ℕ) (r : answer.Wrote) : Type 0 where

@@ -1,3 +1,1 @@
-pub mod Value
 pub mod Encoding
-pub mod Plain

@@ -1,19 +1,19 @@
 // Records of 20 words encoded under a sheet, `encode_instruction` of encode.rs. One pass writes what fits and counts all of
 // it, so that the lent space is compared with the length needed only after nothing else has refused.
 ghost use mathlib.Core.Path.{_≡_};
-ghost use mathlib.Core.Bool.{Bool};
-ghost use Prim.Native.Nat.{ℕ, _+_, _-_, _*_, _≤_};
+ghost use Prim.Native.Nat.{_+_, _-_, _*_, _≤_};
 ghost use lib.Dec.{eqb};
 ghost use lib.ListN.{length};
 ghost use Rattle.lists.specs.Choice.{pick, both};
 ghost use Rattle.spec_body.specs.Encode.{goodPair, goodPairs, goodShape, encodeOperands, encodeRecord, encodeRecords};
 ghost use Rattle.spec_body.specs.Operation as operation;
 ghost use Rattle.spec_body.specs.Operation.{encodeOutcome, report, exitOf};
-ghost use Rattle.encode.specs.Plain.{codeTable, Counted};
-ghost use Rattle.encode.specs.Encoding.{recordAt, pairsAt, Operanded, Turn, Encoding, encodeReport};
-use crate::operand::fits_in;
+ghost use Rattle.write_operands.specs.Plain.{codeTable, Counted};
+ghost use Rattle.write_operands.specs.Ahead.{recordAt, pairsAt};
+ghost use Rattle.encode.specs.Encoding.{Operanded, Turn, Encoding, encodeReport};
 use numbers::parse::Number;
 use sheet::opcode::Sheet;
+use write_operands::operand::fits_in;
 
 // The bytes written; or why a text or its records are refused: the sheet's malformed line, the record whose shape is bad,
 // whose opcode is beyond the sheet's or whose operand count is another, the record and its operand that doesn't fit; or
@@ -113,7 +113,7 @@ fn encode_operands(row: [u8; 8], words: &[u64], at: usize, out: &mut [u8], from:
             return Wrote::To(k);
         }
         let p = at + 4 + 2 * i;
-        let v = crate::operand::encode_number(c, words[p], words[p + 1]);
+        let v = write_operands::operand::encode_number(c, words[p], words[p + 1]);
         let Number::Is(n) = v else {
             return Wrote::Misfit(i + 1);
         };
@@ -144,7 +144,7 @@ fn encode_any(
         return EncodeAnswer::Beyond(i);
     }
     let row = types[opcode as usize];
-    if words[at + 3] != crate::plain::operand_count(row) {
+    if words[at + 3] != write_operands::plain::operand_count(row) {
         return EncodeAnswer::Count(i);
     }
     let k = slices::write::put_byte(out, from, opcode as u8);
@@ -172,9 +172,9 @@ fn encode_record(
     ensures { λ r. ⌜ Turn (encodeRecord (now (types .entry)) last i (recordAt (now (words .entry)) (20 * i))) (now (out .entry)) «from» spare (now (out .exit)) r ⌝ }
 {
     let at = 20 * i;
-    if crate::plain::has_room(out.len(), from, spare) {
-        if crate::plain::is_plain(codes, counts, types, last, words, at) {
-            let k = crate::plain::put_record(codes, types, words, at, out, from);
+    if write_operands::plain::has_room(out.len(), from, spare) {
+        if write_operands::plain::is_plain(codes, counts, types, last, words, at) {
+            let k = write_operands::plain::put_record(codes, types, words, at, out, from);
             return EncodeAnswer::Done(k);
         }
     }
@@ -191,8 +191,8 @@ fn encode_records(
     requires { ⌜ last ≤ 255 ⌝ }
     ensures { λ r. ⌜ Encoding (encodeRecords (now (types .entry)) last (now (words .entry))) (now (out .entry)) (now (out .exit)) r ⌝ }
 {
-    let codes = crate::plain::code_table();
-    let counts = crate::plain::plain_counts(types, last);
+    let codes = write_operands::plain::code_table();
+    let counts = write_operands::plain::plain_counts(types, last);
     let n = words.len() / 20;
     let mut k: usize = 0;
     let mut i: usize = 0;

@@ -1,4 +1,2 @@
 // Encoding: records of 20 words back into the bytes of a body.
 pub mod encode;
-pub mod operand;
-mod plain;

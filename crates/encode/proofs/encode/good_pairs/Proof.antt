@@ -1,5 +1,5 @@
-use Rattle.encode.proofs.ShapeLaws.{pair-good, pair-bad}
-use Rattle.encode.specs.Encoding.{pairsAt}
+use Rattle.write_operands.proofs.ShapeLaws.{pair-good, pair-bad}
+use Rattle.write_operands.specs.Ahead.{pairsAt}
 use Rattle.spec_body.specs.Encode.{goodPairs}
 use lib.ListN.{drop}
 use Prim.Native.Nat.{_-_, _*_, _≤_}

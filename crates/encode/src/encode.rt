@@ -117,7 +117,7 @@ fn encode_operands(row: [u8; 8], words: &[u64], at: usize, out: &mut [u8], from:
         let Number::Is(n) = v else {
             return Wrote::Misfit(i + 1);
         };
-        k = numbers::io::put_le(out, k, sheet::types::width(c), n);
+        k = numbers::io::put_le(out, k, sheet_line::types::width(c), n);
         i += 1;
     }
     Wrote::To(k)

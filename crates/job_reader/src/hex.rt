@@ -6,7 +6,7 @@ ghost use Rattle.spec_job.specs.Hex.{hexAt};
 ghost use Rattle.spec_job.specs.Table.{keyedHexAt};
 ghost use Rattle.job_reader.specs.HexAnswers.{Lined};
 use numbers::parse::digit_value;
-use sheet::scan::Step;
+use sheet_line::scan::Step;
 
 // A line that was read: the place behind it and the next position of the lent bytes.
 pub enum HexLine {
@@ -52,7 +52,7 @@ pub fn hex_at(s: &[u8], start: usize, out: &mut [u8], from: usize) -> HexLine
 pub fn keyed_hex_at(s: &[u8], at: usize, key: &[u8], out: &mut [u8], from: usize) -> HexLine
     ensures { λ r. ⌜ Lined (keyedHexAt (now (key .entry)) (now (s .entry)) at) (now (out .entry)) «from» (now (out .exit)) r ⌝ }
 {
-    let l = sheet::scan::literal_at(s, at, key);
+    let l = sheet_line::scan::literal_at(s, at, key);
     let Step::Next(_, a) = l else {
         return HexLine::Malformed;
     };

@@ -9,13 +9,13 @@ ghost use Rattle.job_reader.specs.ReaderAnswers.{EditionIn, BodyIn};
 use crate::hex::HexLine;
 use crate::table::TableAnswer;
 use sheet::opcode::Sheet;
-use sheet::scan::Step;
+use sheet_line::scan::Step;
 
 // Whether the job asks for a listing.
 pub fn is_list(s: &[u8]) -> bool
     ensures { λ r. ⌜ r ≡ opens (text "job=list\n") (now (s .entry)) ⌝ }
 {
-    let l = sheet::scan::literal_at(s, 0, b"job=list\n");
+    let l = sheet_line::scan::literal_at(s, 0, b"job=list\n");
     match l {
         Step::Next(_, _) => true,
         Step::Off => false,

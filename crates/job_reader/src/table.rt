@@ -7,7 +7,7 @@ ghost use Rattle.spec_job.specs.Table.{keyedHexAt, stringsFrom, tableAt};
 ghost use Rattle.job_reader.specs.HexAnswers.{Lined};
 ghost use Rattle.job_reader.specs.TableAnswers.{Tabled};
 use crate::hex::HexLine;
-use sheet::scan::Step;
+use sheet_line::scan::Step;
 
 // A table that was read: the place behind it, how many strings it has and how many bytes; or how many of its lines were
 // in order.
@@ -55,7 +55,7 @@ pub fn table_at(s: &[u8], at: usize, bytes: &mut [u8], ends: &mut [u32]) -> Tabl
     requires { ⌜ (length (now s) ≤ 65536) × (4096 ≤ length (now ends)) ⌝ }
     ensures { λ r. ⌜ Tabled (tableAt (now (s .entry)) at) (now (bytes .exit)) (now (ends .exit)) r ⌝ }
 {
-    let n = sheet::scan::keyed_at(s, at, b"strings=", 4096, b"\n");
+    let n = sheet_line::scan::keyed_at(s, at, b"strings=", 4096, b"\n");
     let Step::Next(count, a) = n else {
         return TableAnswer::FaultAfter(0);
     };

@@ -62,8 +62,8 @@ fn note_target(
     requires { ⌜ (at ≤ 65536) × (p + widthOf code ≤ length (now s)) × (counts .near + counts .far < 18446744073709551615) ⌝ }
     ensures { λ r. ⌜ notesOf (now (marks .exit)) (now (stored .exit)) r ≡ noteAll (notesOf (now (marks .entry)) (now (stored .entry)) counts) (targetIn at code (le (part (now (s .entry)) p (widthOf code)))) ⌝ }
 {
-    if sheet::types::family(code) == 4 {
-        let bits = numbers::io::read_le(s, p, sheet::types::width(code));
+    if sheet_line::types::family(code) == 4 {
+        let bits = numbers::io::read_le(s, p, sheet_line::types::width(code));
         let target = lines::operand::target_of(at, code, bits);
         if target < 0x8000_0000 {
             return note(marks, stored, counts, target);
@@ -92,7 +92,7 @@ fn note_targets(
     while i < 8 {
         let code = row[i];
         c = note_target(marks, stored, c, s, at, code, p);
-        p += sheet::types::width(code);
+        p += sheet_line::types::width(code);
         i += 1;
     }
     c

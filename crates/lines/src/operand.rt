@@ -76,7 +76,7 @@ pub fn put_operand(
     requires { ⌜ (at ≤ 65536) × (bits < 256 ^ widthOf code) ⌝ }
     ensures { λ r. ⌜ Put (now (out .entry)) k (operandText texts (now (bytes .entry)) (now (ends .entry)) at code bits) (now (out .exit)) r ⌝ }
 {
-    let family = sheet::types::family(code);
+    let family = sheet_line::types::family(code);
     match family {
         1 => put_register(out, k, bits),
         2 => put_decimal(out, k, bits),
@@ -119,7 +119,7 @@ pub fn put_operands(
         if code == 0 {
             return n;
         }
-        let width = sheet::types::width(code);
+        let width = sheet_line::types::width(code);
         let bits = numbers::io::read_le(s, p, width);
         n = put_separator(out, n, i);
         n = put_operand(out, n, texts, bytes, ends, at, code, bits);

@@ -1,8 +1,4 @@
-pub mod AnswerLaws
-pub mod KeyedLaws
 pub mod MarkLaws
-pub mod TypesLoop
-pub mod LineLaws
 pub mod StoreLaws
 pub mod OpsLoop
 pub mod SheetAnswers

@@ -11,13 +11,13 @@ use Rattle.spec_sheet.specs.Line.LineRead.{line, noLine}
 use Rattle.spec_sheet.specs.Sheet.{findName, isMissing, mayFollow, accepted}
 use Rattle.spec_sheet.proofs.NameLaws.{follow-by-name}
 use Rattle.spec_sheet.proofs.OpLaws.{line-good}
-use Rattle.sheet.specs.Lines.{lineOf}
+use Rattle.sheet_line.specs.Lines.{lineOf}
 use Rattle.sheet.specs.Marks.{nameIn}
 use Rattle.sheet.specs.Sheets.{turnOf, typesStored, infosStored}
-use Rattle.sheet.specs.declared.line.Line.{Line}
-use Rattle.sheet.specs.declared.scan.Step.{Step}
-use Rattle.sheet.specs.declared.scan.Step.the-variants.{Next, Off}
-use Rattle.sheet.proofs.LineLaws.{LineIs, was-line, was-no-line}
+use Rattle.sheet_line.specs.declared.line.Line.{Line}
+use Rattle.sheet_line.specs.declared.scan.Step.{Step}
+use Rattle.sheet_line.specs.declared.scan.Step.the-variants.{Next, Off}
+use Rattle.sheet_line.proofs.LineLaws.{LineIs, was-line, was-no-line}
 
 -- what a line leaves: the answer, and both tables
 pub record Stored (x : LineRead) (r : Step) (types types′ infos infos′ : List (List ℕ)) : Type 0 where

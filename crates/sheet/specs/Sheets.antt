@@ -8,8 +8,8 @@ use Rattle.spec_sheet.specs.Sheet as spec
 use Rattle.spec_sheet.specs.Sheet.{typeRows, infoRows, noTypeRows, noInfoRows, above}
 use Rattle.spec_sheet.specs.Sheet.OpsRead.{allRead, faultAfter}
 use Rattle.spec_sheet.specs.Sheet.SheetRead.{sheet, malformed}
-use Rattle.sheet.specs.declared.scan.Step.{Step}
-use Rattle.sheet.specs.declared.scan.Step.the-variants.{Next, Off}
+use Rattle.sheet_line.specs.declared.scan.Step.{Step}
+use Rattle.sheet_line.specs.declared.scan.Step.the-variants.{Next, Off}
 use Rattle.sheet.specs.declared.opcode.Ops.{Ops}
 use Rattle.sheet.specs.declared.opcode.Ops.the-variants.{All, FaultAfter}
 use Rattle.sheet.specs.declared.opcode.Sheet.{Sheet}

@@ -1,6 +1,3 @@
 // The opcode sheet: its text is read once into tables by opcode, which every later layer is lent.
-pub mod line;
 pub mod marks;
 pub mod opcode;
-pub mod scan;
-pub mod types;

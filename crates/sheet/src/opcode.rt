@@ -14,7 +14,7 @@ ghost use Rattle.spec_sheet.specs.Sheet.{hasName, findName, isMissing, mayFollo
 ghost use Rattle.spec_sheet.specs.Sheet.OpsRead.{allRead};
 ghost use Rattle.sheet.specs.Marks.{nameIn, Marked};
 ghost use Rattle.sheet.specs.Sheets.{turnOf, typesStored, infosStored, opsOf, sheetAnswer, typesIn, infosIn};
-use crate::scan::Step;
+use sheet_line::scan::Step;
 use slices::search::Found;
 
 // Whether an opcode has this name.
@@ -109,7 +109,7 @@ fn store_line(
     ensures { λ _. ⌜ now (ops .exit) ≡ infosStored (accepted (now (s .entry)) least (now (ops .entry)) (lineAt (now (s .entry)) at)) (now (ops .entry)) ⌝ }
     ensures { λ _. ⌜ Marked (now (s .entry)) (now (marks .exit)) (now (ops .exit)) ⌝ }
 {
-    let l = crate::line::line_at(s, at);
+    let l = sheet_line::line::line_at(s, at);
     if l.ok {
         let code = l.code;
         let info = l.info;
@@ -183,11 +183,11 @@ pub fn sheet_at(
     ensures { λ _. ⌜ now (ops .exit) ≡ infosIn (sheetAt (now (s .entry)) at) ⌝ }
 {
     reset(types, ops);
-    let v = crate::scan::keyed_at(s, at, b"version=", 4294967295, b"\n");
+    let v = sheet_line::scan::keyed_at(s, at, b"version=", 4294967295, b"\n");
     let Step::Next(version, a) = v else {
         return Sheet::Malformed(1);
     };
-    let n = crate::scan::keyed_at(s, a, b"count=", 256, b"\n");
+    let n = sheet_line::scan::keyed_at(s, a, b"count=", 256, b"\n");
     let Step::Next(count, b) = n else {
         return Sheet::Malformed(2);
     };

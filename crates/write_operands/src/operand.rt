@@ -30,7 +30,7 @@ fn encode_unsigned(code: u8, kind: u64, bits: u64) -> Number
     if 2 < kind {
         return Number::Bad;
     }
-    if fits_in(sheet::types::width(code), bits) {
+    if fits_in(sheet_line::types::width(code), bits) {
         return Number::Is(bits);
     }
     Number::Bad
@@ -96,7 +96,7 @@ fn encode_double(kind: u64, bits: u64) -> Number
 pub fn encode_number(code: u8, kind: u64, bits: u64) -> Number
     ensures { λ r. ⌜ r ≡ numberOf (encodeOperand code kind bits) ⌝ }
 {
-    if sheet::types::family(code) <= 3 {
+    if sheet_line::types::family(code) <= 3 {
         return encode_unsigned(code, kind, bits);
     }
     if code == 9 {

@@ -1,6 +1,6 @@
 use mathlib.Core.Path.{refl, sym, _∙_}
 use Rattle.job_reader.specs.HexAnswers.Lined.{noLine}
-use Rattle.sheet.proofs.AnswerLaws.{was-next, was-off}
+use Rattle.sheet_line.proofs.AnswerLaws.{was-next, was-off}
 use Rattle.spec_job.proofs.TableLaws.{keyed-hex, keyed-off}
 use borrow.Author.Needs.{needs}
 use Rattle.job_reader.proofs.hex.keyed_hex_at.Statement.{statement}

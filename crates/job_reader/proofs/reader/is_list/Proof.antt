@@ -1,5 +1,5 @@
 use mathlib.Core.Path.{sym, _∙_}
-use Rattle.sheet.proofs.AnswerLaws.{was-next, was-off}
+use Rattle.sheet_line.proofs.AnswerLaws.{was-next, was-off}
 use Rattle.spec_job.proofs.TableLaws.{literal-here, literal-off}
 use Rattle.lists.specs.Text.{text}
 use borrow.Author.Needs.{needs}

@@ -1,7 +1,7 @@
 use mathlib.Core.Path.{refl, sym, _∙_}
 use native.Mathlib.Omega.{arith}
 use Rattle.job_reader.specs.TableAnswers.Tabled.{faulty}
-use Rattle.sheet.proofs.AnswerLaws.{was-next, was-off}
+use Rattle.sheet_line.proofs.AnswerLaws.{was-next, was-off}
 use Rattle.spec_job.proofs.TableLaws.{no-strings, with-strings, few-strings}
 use Rattle.lists.specs.Text.{text}
 use borrow.Author.Needs.{needs}

@@ -1,4 +1,4 @@
-use Rattle.sheet.proofs.AnswerLaws.{name-found, name-missing}
+use Rattle.sheet_line.proofs.AnswerLaws.{name-found, name-missing}
 use Rattle.slices.proofs.SearchLaws.{was-missing}
 use mathlib.Core.Path.{sym, _∙_}
 use Rattle.slices.proofs.SearchLaws.{was-missing}

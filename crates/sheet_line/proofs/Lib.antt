@@ -1,0 +1,4 @@
+pub mod AnswerLaws
+pub mod KeyedLaws
+pub mod TypesLoop
+pub mod LineLaws

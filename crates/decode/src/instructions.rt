@@ -10,7 +10,7 @@ ghost use Rattle.spec_body.specs.Function.{inArea};
 ghost use Rattle.spec_body.specs.Operation as operation;
 ghost use Rattle.spec_body.specs.Operation.{report, exitOf, decodeOutcome};
 ghost use Rattle.decode.specs.Bodies.{storedAt, bodyOf, decodeReport};
-ghost use Rattle.decode.specs.Tables.{CodeRows, headRow};
+ghost use Rattle.records.specs.Tables.{CodeRows, headRow};
 use sheet::opcode::Sheet;
 
 // A body's records, counted, or the instruction where it is refused.
@@ -34,7 +34,7 @@ fn store_record(
     ensures { λ _. ⌜ (now (out .exit) ≡ storedAt (now (out .entry)) n (recordOf row (now (s .entry)) at)) × (length row ≡ 8) ⌝ }
 {
     if n < out.len() / 20 {
-        crate::record::put_record(out, n * 20, row, head, codes, s, at);
+        records::record::put_record(out, n * 20, row, head, codes, s, at);
     }
 }
 
@@ -43,8 +43,8 @@ fn decode_body(types: &[[u8; 8]; 256], last: usize, s: &[u8], out: &mut [u64]) -
     ensures { λ r. ⌜ r ≡ bodyOf (decodeBody (now (types .entry)) last (now (s .entry))) ⌝ }
     ensures { λ _. ⌜ ((rs : List (List ℕ)) → decodeBody (now (types .entry)) last (now (s .entry)) ≡ decoded rs → (length (join rs) ≡ 20 * length rs) × (20 * length rs ≤ length (now (out .entry)) → now (out .exit) ≡ join rs ++ drop (20 * length rs) (now (out .entry)))) ⌝ }
 {
-    let codes = crate::tables::code_rows();
-    let heads = crate::tables::head_rows(types, last);
+    let codes = records::tables::code_rows();
+    let heads = records::tables::head_rows(types, last);
     let mut n: usize = 0;
     let mut at: usize = 0;
     while at < s.len() {
@@ -54,7 +54,7 @@ fn decode_body(types: &[[u8; 8]; 256], last: usize, s: &[u8], out: &mut [u64]) -
         }
         let row = types[op];
         let head = heads[op];
-        let size = crate::tables::number(head[0]);
+        let size = records::tables::number(head[0]);
         if s.len() - at < size {
             return Body::Cut(at);
         }
@@ -86,17 +86,17 @@ fn decode_under(types: &[[u8; 8]; 256], last: usize, s: &[u8], out: &mut [u64]) 
     match b {
         Body::Records(n) => {
             if room < n {
-                crate::words::clear_words(out);
+                records::words::clear_words(out);
                 return DecodeAnswer::Short;
             }
             DecodeAnswer::Done(n)
         }
         Body::Beyond(at) => {
-            crate::words::clear_words(out);
+            records::words::clear_words(out);
             DecodeAnswer::Beyond(at)
         }
         Body::Cut(at) => {
-            crate::words::clear_words(out);
+            records::words::clear_words(out);
             DecodeAnswer::Cut(at)
         }
     }
@@ -108,7 +108,7 @@ pub fn decode(text: &[u8], body: &[u8], out: &mut [u64]) -> DecodeAnswer
     ensures { λ _. ⌜ now (out .exit) ≡ exitOf (operation.decode (now (text .entry)) (now (body .entry))) (now (out .entry)) ⌝ }
 {
     if 65536 < body.len() {
-        crate::words::clear_words(out);
+        records::words::clear_words(out);
         return DecodeAnswer::TooLarge;
     }
     let mut types = [[0u8; 8]; 256];
@@ -117,7 +117,7 @@ pub fn decode(text: &[u8], body: &[u8], out: &mut [u64]) -> DecodeAnswer
     match sheet {
         Sheet::Read(_, _, above, _) => decode_under(&types, above - 1, body, out),
         Sheet::Malformed(line) => {
-            crate::words::clear_words(out);
+            records::words::clear_words(out);
             DecodeAnswer::Malformed(line)
         }
     }
@@ -170,7 +170,7 @@ pub fn decode_function(
             out,
         ),
         Sheet::Malformed(line) => {
-            crate::words::clear_words(out);
+            records::words::clear_words(out);
             DecodeAnswer::Malformed(line)
         }
     }
@@ -193,12 +193,12 @@ fn function_under(
         let start = wide(functions[3 * id]) - wide(base);
         let size = wide(functions[3 * id + 1]);
         if 65536 < size {
-            crate::words::clear_words(out);
+            records::words::clear_words(out);
             return DecodeAnswer::TooLarge;
         }
         let body = slices::part::part_of(area, start, size);
         return decode_under(types, last, body, out);
     }
-    crate::words::clear_words(out);
+    records::words::clear_words(out);
     DecodeAnswer::NoFunction(id)
 }

@@ -1,5 +1,2 @@
 // Decoding a body into records: decode_function_instructions of instructions.rs.
 pub mod instructions;
-pub mod record;
-pub mod tables;
-pub mod words;

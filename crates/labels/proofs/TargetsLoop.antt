@@ -10,7 +10,7 @@ use Rattle.lists.specs.Scan.{part}
 use Rattle.spec_numbers.specs.LittleEndian.{le}
 use Rattle.spec_sheet.specs.Types.{widthOf, kindOf}
 use Rattle.spec_body.specs.Record.{sumBy, widths, lengthOf, pairs}
-use Rattle.decode.proofs.RowLaws.{sum-more, sum-all, sum-front}
+use Rattle.records.proofs.RowLaws.{sum-more, sum-all, sum-front}
 use Rattle.spec_listing.specs.Labels.{targets}
 use Rattle.labels.specs.Notes.{Notes, noteAll, targetIn}
 use Rattle.labels.proofs.NoteLaws.{all-append, all-none, all-most}

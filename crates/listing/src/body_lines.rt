@@ -72,7 +72,7 @@ pub fn list_lines(
     while at < s.len() {
         let op = s[at] as usize;
         let row = types[op];
-        let size = decode::record::instruction_length(row);
+        let size = records::record::instruction_length(row);
         let a = put_mark(out, k, labels, marks, indent, at);
         let b = put_bytes(out, a, indent);
         let c = lines::instruction::put_instruction(

@@ -5,7 +5,7 @@ use lib.ListN.{length}
 use Rattle.spec_body.specs.Decode.{rowAt}
 use Rattle.spec_body.specs.Record.{lengthOf}
 use Rattle.decode.specs.Bodies.{bodyOf}
-use Rattle.decode.proofs.TableLaws.{length-in}
+use Rattle.records.proofs.TableLaws.{length-in}
 use Rattle.decode.proofs.BodyLoop.{Going, start, ended, stopped, broken, turn, not-beyond, not-cut, all-written}
 use Rattle.decode.specs.declared.instructions.Body.the-variants.{Records}
 use borrow.Author.Needs.{needs}

@@ -1,8 +1,3 @@
-pub mod FlowLaws
-pub mod NoteLaws
-pub mod TargetLaws
-pub mod TargetsLoop
-pub mod InstructionLaws
 pub mod WalkLoop
 pub mod MarkLaws
 pub mod CollectLaws

@@ -1,4 +1,2 @@
 // The label offsets of a body, marked and counted: collect_label_offsets of disasm.rs.
 pub mod collect;
-pub mod flow;
-pub mod offsets;

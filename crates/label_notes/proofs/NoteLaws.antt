@@ -9,7 +9,7 @@ use lib.ListN.{length, getD, set}
 use borrow.Author.Tests.{lt-ltb, le-ltb, eq-eqb, ne-eqb}
 use Rattle.lists.specs.Choice.{pick}
 use Rattle.lists.proofs.Tests.{by-leb, by-eqb}
-use Rattle.labels.specs.Notes.{Notes, withMark, withFar, note, noteAll}
+use Rattle.label_notes.specs.Notes.{Notes, withMark, withFar, note, noteAll}
 
 -- a near offset that was not marked, one that was, and a far one
 module _ (n : Notes) (x : ℕ) where

@@ -10,7 +10,7 @@ use Rattle.spec_sheet.specs.Types.{familyOf}
 use Rattle.spec_body.specs.Record.{lengthOf, pairs}
 use Rattle.spec_listing.specs.Operand.{targetOf}
 use Rattle.spec_listing.specs.Labels.{endsFlow, targets}
-use Rattle.labels.specs.declared.offsets.Counts.{Counts}
+use Rattle.label_notes.specs.declared.offsets.Counts.{Counts}
 
 -- a mark for each near offset and how many of them are marked; the far offsets, those past the marks, as they were met, and
 -- how many those are

@@ -1,9 +1,9 @@
-use Rattle.labels.specs.Notes.{notesOf}
-use Rattle.labels.proofs.InstructionLaws.{behind-few, plain-few, jump-noted, plain-noted}
+use Rattle.label_notes.specs.Notes.{notesOf}
+use Rattle.label_notes.proofs.InstructionLaws.{behind-few, plain-few, jump-noted, plain-noted}
 use native.Mathlib.Omega.{arith}
 use borrow.Author.Needs.{needs}
-use Rattle.labels.proofs.offsets.note_instruction.Statement.{statement}
-use Rattle.labels.proofs.offsets.note_instruction.Tie as tie
+use Rattle.label_notes.proofs.offsets.note_instruction.Statement.{statement}
+use Rattle.label_notes.proofs.offsets.note_instruction.Tie as tie
 
 add-next : tie.Need-add-next
 add-next c = search needs

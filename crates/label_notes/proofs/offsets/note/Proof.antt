@@ -1,8 +1,8 @@
-use Rattle.labels.proofs.NoteLaws.{was-new, note-seen, was-far}
+use Rattle.label_notes.proofs.NoteLaws.{was-new, note-seen, was-far}
 use mathlib.Core.Path.{sym}
 use borrow.Author.Needs.{needs}
-use Rattle.labels.proofs.offsets.note.Statement.{statement}
-use Rattle.labels.proofs.offsets.note.Tie as tie
+use Rattle.label_notes.proofs.offsets.note.Statement.{statement}
+use Rattle.label_notes.proofs.offsets.note.Tie as tie
 
 slice-read-if2 : tie.Need-slice-read-if2
 slice-read-if2 c = search needs

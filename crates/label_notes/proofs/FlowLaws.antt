@@ -11,7 +11,7 @@ use Rattle.lists.specs.Scan.{same, part}
 use Rattle.lists.specs.Text.{text}
 use Rattle.lists.proofs.Scans.{same-lengths}
 use Rattle.spec_listing.specs.Labels.{endsFlow}
-use Rattle.labels.specs.Notes.{nameIn}
+use Rattle.label_notes.specs.Notes.{nameIn}
 
 module _ (n : List ℕ) where
   -- a name that is of another length is not one of them

@@ -9,8 +9,8 @@ ghost use Rattle.spec_numbers.specs.LittleEndian.{le};
 ghost use Rattle.spec_sheet.specs.Types.{widthOf};
 ghost use Rattle.spec_body.specs.Record.{lengthOf, pairs};
 ghost use Rattle.spec_listing.specs.Labels.{endsFlow, targets};
-ghost use Rattle.labels.specs.Notes as notes;
-ghost use Rattle.labels.specs.Notes.{notesOf, noteAll, targetIn, nameIn, labelsIn};
+ghost use Rattle.label_notes.specs.Notes as notes;
+ghost use Rattle.label_notes.specs.Notes.{notesOf, noteAll, targetIn, nameIn, labelsIn};
 
 // How many near offsets are marked, and how many far ones were met.
 pub struct Counts {

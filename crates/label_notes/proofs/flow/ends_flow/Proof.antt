@@ -1,9 +1,9 @@
-use Rattle.labels.proofs.FlowLaws.{named-gap, named}
+use Rattle.label_notes.proofs.FlowLaws.{named-gap, named}
 use Rattle.spec_listing.specs.Labels.{endsFlow}
 use mathlib.Core.Path.{sym, ap, _∙_}
 use borrow.Author.Needs.{needs}
-use Rattle.labels.proofs.flow.ends_flow.Statement.{statement}
-use Rattle.labels.proofs.flow.ends_flow.Tie as tie
+use Rattle.label_notes.proofs.flow.ends_flow.Statement.{statement}
+use Rattle.label_notes.proofs.flow.ends_flow.Tie as tie
 
 returns : tie.Need-returns
 returns c = let a = c .before .before .args in sym (named-gap (a .text .now) (a .start) (a .size) (c .if1 .taken))

@@ -11,8 +11,8 @@ use Rattle.spec_body.specs.Record.{lengthOf, pairs, recordOf}
 use Rattle.spec_body.specs.Decode.{rowAt}
 use Rattle.spec_listing.specs.Edition.{Edition, nameOf, isJump}
 use Rattle.spec_listing.specs.Labels.{endsFlow, targets, labelsOf}
-use Rattle.labels.specs.Notes.{Notes, noteAll, nameIn, labelsIn}
-use Rattle.labels.proofs.NoteLaws.{all-append, all-most}
+use Rattle.label_notes.specs.Notes.{Notes, noteAll, nameIn, labelsIn}
+use Rattle.label_notes.proofs.NoteLaws.{all-append, all-most}
 
 -- the offset behind an instruction, where its name ends the flow
 abbrev pub behind : List ℕ → List ℕ → ℕ → List ℕ

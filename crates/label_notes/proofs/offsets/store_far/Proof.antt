@@ -1,8 +1,8 @@
 use lib.Seq.{set-out}
 use mathlib.Core.Path.{sym}
 use borrow.Author.Needs.{needs}
-use Rattle.labels.proofs.offsets.store_far.Statement.{statement}
-use Rattle.labels.proofs.offsets.store_far.Tie as tie
+use Rattle.label_notes.proofs.offsets.store_far.Statement.{statement}
+use Rattle.label_notes.proofs.offsets.store_far.Tie as tie
 
 mul-stored : tie.Need-mul-stored
 mul-stored c = search needs

@@ -1,8 +1,8 @@
-use Rattle.labels.proofs.NoteLaws.{one-noted, none-noted}
+use Rattle.label_notes.proofs.NoteLaws.{one-noted, none-noted}
 use mathlib.Core.Path.{sym, _∙_}
 use borrow.Author.Needs.{needs}
-use Rattle.labels.proofs.offsets.note_behind.Statement.{statement}
-use Rattle.labels.proofs.offsets.note_behind.Tie as tie
+use Rattle.label_notes.proofs.offsets.note_behind.Statement.{statement}
+use Rattle.label_notes.proofs.offsets.note_behind.Tie as tie
 
 ends-flow-requires : tie.Need-ends-flow-requires
 ends-flow-requires c κs = search needs

@@ -1,12 +1,12 @@
-use Rattle.labels.proofs.TargetsLoop.{Going, start, operand-inside, turn, all-noted, all-few}
-use Rattle.labels.specs.Notes.{notesOf}
+use Rattle.label_notes.proofs.TargetsLoop.{Going, start, operand-inside, turn, all-noted, all-few}
+use Rattle.label_notes.specs.Notes.{notesOf}
 use lib.ListN.{length}
 use native.Mathlib.Omega.{arith}
 use Prim.Native.Nat.{_-_, _<_}
 use mathlib.Core.Path.{_≡_}
 use borrow.Author.Needs.{needs}
-use Rattle.labels.proofs.offsets.note_targets.Statement.{statement}
-use Rattle.labels.proofs.offsets.note_targets.Tie as tie
+use Rattle.label_notes.proofs.offsets.note_targets.Statement.{statement}
+use Rattle.label_notes.proofs.offsets.note_targets.Tie as tie
 
 abbrev Inv-loop : tie.InvT-loop
 Inv-loop marks₀ stored₀ s at row c₀ p₀ i₀ marks stored c p i = Going row s at (notesOf marks₀ stored₀ c₀) (notesOf marks stored c) p i

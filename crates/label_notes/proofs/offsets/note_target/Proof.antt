@@ -1,4 +1,4 @@
-use Rattle.labels.proofs.TargetLaws.{bits-below, kept-noted, negative-noted, other-noted}
+use Rattle.label_notes.proofs.TargetLaws.{bits-below, kept-noted, negative-noted, other-noted}
 use Rattle.spec_sheet.proofs.TypeLaws.{width-most}
 use Rattle.spec_sheet.specs.Types.{widthOf}
 use Rattle.spec_numbers.specs.LittleEndian.{le}
@@ -6,8 +6,8 @@ use Rattle.lists.specs.Scan.{part}
 use native.Mathlib.Omega.{arith}
 use mathlib.Core.Path.{_≡_, sym, _∙_}
 use borrow.Author.Needs.{needs}
-use Rattle.labels.proofs.offsets.note_target.Statement.{statement}
-use Rattle.labels.proofs.offsets.note_target.Tie as tie
+use Rattle.label_notes.proofs.offsets.note_target.Statement.{statement}
+use Rattle.label_notes.proofs.offsets.note_target.Tie as tie
 
 family-requires : tie.Need-family-requires
 family-requires c κs = search needs

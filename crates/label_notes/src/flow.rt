@@ -1,7 +1,7 @@
 // Instructions that the flow does not pass.
 ghost use mathlib.Core.Path.{_≡_};
 ghost use Rattle.spec_listing.specs.Labels.{endsFlow};
-ghost use Rattle.labels.specs.Notes.{nameIn};
+ghost use Rattle.label_notes.specs.Notes.{nameIn};
 use slices::compare::same_bytes;
 
 // Whether a name is one of those. Its length is looked at first, since that tells most names apart.

@@ -1,9 +1,9 @@
-use Rattle.labels.proofs.FlowLaws.{flow-ret, flow-three, flow-five, flow-seven, flow-none}
+use Rattle.label_notes.proofs.FlowLaws.{flow-ret, flow-three, flow-five, flow-seven, flow-none}
 use Rattle.lists.specs.Text.{text}
 use mathlib.Core.Path.{sym, _∙_}
 use borrow.Author.Needs.{needs}
-use Rattle.labels.proofs.flow.is_flow_end.Statement.{statement}
-use Rattle.labels.proofs.flow.is_flow_end.Tie as tie
+use Rattle.label_notes.proofs.flow.is_flow_end.Statement.{statement}
+use Rattle.label_notes.proofs.flow.is_flow_end.Tie as tie
 
 slice-aggregate-same-bytes : tie.Need-slice-aggregate-same-bytes
 slice-aggregate-same-bytes c = search needs

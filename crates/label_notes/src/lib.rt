@@ -1,0 +1,3 @@
+// The label offsets of one instruction, noted in marks and counted.
+pub mod flow;
+pub mod offsets;

@@ -214,7 +214,7 @@ pub extern "C" fn desk_list_module(
     ensures { λ _. ⌜ now (out .exit) ≡ exitOf (listing.listModule (optionsOf offsets labels texts) (now (text .entry)) (now (bytes .entry)) (now (ends .entry)) (areaOf (now (functions .entry)) (now (area .entry)) base) (length (now (entries .entry)))) (now (out .entry)) ⌝ }
     ensures { λ _. ⌜ now (entries .exit) ≡ replicate (length (now (entries .entry))) 0 ⌝ }
 {
-    list_numbers(disasm::module::list_module(
+    list_numbers(modules::module::list_module(
         offsets,
         labels,
         texts,

@@ -1,4 +1,2 @@
 pub mod Answers
 pub mod Functions
-pub mod Titles
-pub mod Modules

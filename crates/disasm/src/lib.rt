@@ -1,7 +1,4 @@
-// The listing operations: a body, one function of an area, a whole module.
+// The listing operations: a body, and one function of an area.
 pub mod answer;
 pub mod function;
-pub mod module;
-pub mod module_part;
 pub mod operation;
-pub mod title;

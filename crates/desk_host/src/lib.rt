@@ -5,7 +5,7 @@ ghost use lib.ListN.{length, replicate};
 ghost use Rattle.spec_body.specs.Operation as operation;
 ghost use Rattle.spec_body.specs.Operation.{report, exitOf};
 ghost use Rattle.decode.specs.Bodies.{decodeReport};
-ghost use Rattle.encode.specs.Encoding.{encodeReport};
+ghost use Rattle.write_record.specs.Written.{encodeReport};
 ghost use Rattle.desk_host.specs.Numbers.{numbersOf};
 ghost use Rattle.spec_answers.specs.Report.{refusal, success};
 ghost use Rattle.spec_listing.specs.Operation as listing;
@@ -14,7 +14,7 @@ ghost use Rattle.disasm.specs.Answers.{listReport};
 ghost use Rattle.disasm.specs.Functions.{areaOf};
 use decode::instructions::DecodeAnswer;
 use disasm::answer::ListAnswer;
-use encode::encode::EncodeAnswer;
+use write_record::record::EncodeAnswer;
 
 // Number, place and operand of a refusal, or three zeros and the length.
 #[repr(C)]

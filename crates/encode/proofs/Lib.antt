@@ -1,4 +1,2 @@
-pub mod OperandsLoop
-pub mod RecordLaws
 pub mod RecordsLoop
 pub mod EncodeAnswers

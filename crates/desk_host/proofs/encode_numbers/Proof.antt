@@ -1,6 +1,6 @@
 use mathlib.Core.Path.{ap, sym, _∙_}
-use Rattle.encode.specs.Encoding.{encodeReport}
-use Rattle.encode.specs.declared.encode.EncodeAnswer.{EncodeAnswer}
+use Rattle.write_record.specs.Written.{encodeReport}
+use Rattle.write_record.specs.declared.record.EncodeAnswer.{EncodeAnswer}
 use Rattle.desk_host.specs.Numbers.{numbersOf}
 use borrow.Author.Needs.{needs}
 use Rattle.desk_host.proofs.encode_numbers.Statement.{statement}

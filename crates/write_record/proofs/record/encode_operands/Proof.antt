@@ -1,4 +1,4 @@
-use Rattle.encode.proofs.OperandsLoop.{Going, start, ended, stops, refuses, turn}
+use Rattle.write_record.proofs.OperandsLoop.{Going, start, ended, stops, refuses, turn}
 use Rattle.numbers.proofs.AnswerLaws.{number-is, number-bad}
 use Rattle.lists.proofs.Writes.{kept-length}
 use lib.ListN.{length}
@@ -6,8 +6,8 @@ use Prim.Native.Nat.{_-_}
 use native.Mathlib.Omega.{arith}
 use mathlib.Core.Path.{_≡_, refl, sym, _∙_}
 use borrow.Author.Needs.{needs}
-use Rattle.encode.proofs.encode.encode_operands.Statement.{statement}
-use Rattle.encode.proofs.encode.encode_operands.Tie as tie
+use Rattle.write_record.proofs.record.encode_operands.Statement.{statement}
+use Rattle.write_record.proofs.record.encode_operands.Tie as tie
 
 abbrev Inv-loop : tie.InvT-loop
 Inv-loop words at out₀ from row k₀ i₀ out k i = Going row words at out₀ «from» out k i

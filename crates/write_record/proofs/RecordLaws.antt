@@ -13,16 +13,16 @@ use Rattle.lists.proofs.Parts.{part-at, part-length}
 use Rattle.spec_body.specs.Record.{countOf}
 use Rattle.spec_body.specs.Encode.{Encoded, goodShape, encodeOperands, withOperands, encodeRecord}
 use Rattle.write_operands.specs.Ahead.{recordAt, pairsAt, PlainPut}
-use Rattle.encode.specs.Encoding.{Operanded, Turn, encodeReport}
+use Rattle.write_record.specs.Written.{Operanded, Turn, encodeReport}
 use Rattle.write_operands.specs.Plain.{plainRecord}
-use Rattle.encode.specs.Encoding.Operanded.{whole, misfits}
-use Rattle.encode.specs.Encoding.Turn.{went, stopped}
+use Rattle.write_record.specs.Written.Operanded.{whole, misfits}
+use Rattle.write_record.specs.Written.Turn.{went, stopped}
 use Rattle.write_operands.proofs.AheadLaws.{not-ahead, more-ahead}
 use Rattle.write_operands.proofs.PlainRecords.{plain-encoded}
-use Rattle.encode.specs.declared.encode.EncodeAnswer.{EncodeAnswer}
-use Rattle.encode.specs.declared.encode.EncodeAnswer.the-variants.{Done, Shape, Beyond, Count, Misfit}
-use Rattle.encode.specs.declared.encode.Wrote.{Wrote}
-use Rattle.encode.specs.declared.encode.Wrote.the-variants as wrote
+use Rattle.write_record.specs.declared.record.EncodeAnswer.{EncodeAnswer}
+use Rattle.write_record.specs.declared.record.EncodeAnswer.the-variants.{Done, Shape, Beyond, Count, Misfit}
+use Rattle.write_record.specs.declared.record.Wrote.{Wrote}
+use Rattle.write_record.specs.declared.record.Wrote.the-variants as wrote
 
 module _ (types : List (List ℕ)) (last i at : ℕ) (words out out′ : List ℕ) («from» : ℕ) where
   abbrev this : EncodeAnswer → Type 0

@@ -6,8 +6,8 @@ use Prim.Native.Nat.{_-_, _*_, _≤_}
 use native.Mathlib.Omega.{arith}
 use mathlib.Core.Path.{_≡_, refl, sym, _∙_}
 use borrow.Author.Needs.{needs}
-use Rattle.encode.proofs.encode.good_pairs.Statement.{statement}
-use Rattle.encode.proofs.encode.good_pairs.Tie as tie
+use Rattle.write_record.proofs.record.good_pairs.Statement.{statement}
+use Rattle.write_record.proofs.record.good_pairs.Tie as tie
 
 abbrev Inv-loop : tie.InvT-loop
 Inv-loop words at count left₀ i₀ left i = (i ≤ 8) × (goodPairs 8 count (pairsAt words at) ≡ goodPairs (8 - i) left (drop (2 * i) (pairsAt words at)))

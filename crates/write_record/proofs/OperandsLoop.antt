@@ -15,9 +15,9 @@ use Rattle.spec_sheet.specs.Types.{widthOf}
 use Rattle.spec_body.specs.Encode.{Operands, encodeOperand, encodeOperands, operandBytes, prependBytes}
 use Rattle.spec_body.specs.Encode.Operands.{bytes, misfit}
 use Rattle.write_operands.specs.Ahead.{pairsAt}
-use Rattle.encode.specs.Encoding.{Operanded}
-use Rattle.encode.specs.Encoding.Operanded.{whole, misfits}
-use Rattle.encode.specs.declared.encode.Wrote.the-variants.{To, Misfit}
+use Rattle.write_record.specs.Written.{Operanded}
+use Rattle.write_record.specs.Written.Operanded.{whole, misfits}
+use Rattle.write_record.specs.declared.record.Wrote.the-variants.{To, Misfit}
 use Rattle.write_operands.proofs.ShapeLaws.{pair-word, next-pairs}
 
 prepend-none : (x : Operands) → prependBytes [] x ≡ x

@@ -5,10 +5,10 @@ use Prim.Native.Nat.{_+_, _*_}
 use native.Mathlib.Omega.{arith}
 use borrow.Author.Tests.{leb-true}
 use Rattle.lists.proofs.Tests.{both-left, both-right}
-use Rattle.encode.proofs.RecordLaws.{plain-known, turn-plain, turn-more}
+use Rattle.write_record.proofs.RecordLaws.{plain-known, turn-plain, turn-more}
 use borrow.Author.Needs.{needs}
-use Rattle.encode.proofs.encode.encode_record.Statement.{statement}
-use Rattle.encode.proofs.encode.encode_record.Tie as tie
+use Rattle.write_record.proofs.record.encode_record.Statement.{statement}
+use Rattle.write_record.proofs.record.encode_record.Tie as tie
 
 mul-at : tie.Need-mul-at
 mul-at c = search needs

@@ -5,8 +5,8 @@ use native.Mathlib.Omega.{arith}
 use Prim.Native.Nat.{_+_}
 use lib.ListN.{getD}
 use borrow.Author.Needs.{needs}
-use Rattle.encode.proofs.encode.good_shape.Statement.{statement}
-use Rattle.encode.proofs.encode.good_shape.Tie as tie
+use Rattle.write_record.proofs.record.good_shape.Statement.{statement}
+use Rattle.write_record.proofs.record.good_shape.Tie as tie
 
 add-count : tie.Need-add-count
 add-count c = search needs

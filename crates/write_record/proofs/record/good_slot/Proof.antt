@@ -1,7 +1,7 @@
 use borrow.Author.Tests.{ne-eqb}
 use borrow.Author.Needs.{needs}
-use Rattle.encode.proofs.encode.good_slot.Statement.{statement}
-use Rattle.encode.proofs.encode.good_slot.Tie as tie
+use Rattle.write_record.proofs.record.good_slot.Statement.{statement}
+use Rattle.write_record.proofs.record.good_slot.Tie as tie
 
 returns : tie.Need-returns
 returns c = rw (c .before .if1 .taken, c .if2 .taken)

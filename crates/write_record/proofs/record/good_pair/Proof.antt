@@ -1,8 +1,8 @@
 use borrow.Author.Tests.{lt-leb, le-leb}
 use Rattle.spec_body.specs.Encode.{goodPair}
 use borrow.Author.Needs.{needs}
-use Rattle.encode.proofs.encode.good_pair.Statement.{statement}
-use Rattle.encode.proofs.encode.good_pair.Tie as tie
+use Rattle.write_record.proofs.record.good_pair.Statement.{statement}
+use Rattle.write_record.proofs.record.good_pair.Tie as tie
 
 returns : tie.Need-returns
 unfolding goodPair

@@ -1,10 +1,10 @@
 use Prim.Native.Nat.{_*_}
 use borrow.Author.Tests.{not-true, not-false}
-use Rattle.encode.proofs.RecordLaws.{shape-bad, opcode-beyond, count-other, operands-to, operands-misfit}
+use Rattle.write_record.proofs.RecordLaws.{shape-bad, opcode-beyond, count-other, operands-to, operands-misfit}
 use mathlib.Core.Path.{sym, _∙_}
 use borrow.Author.Needs.{needs}
-use Rattle.encode.proofs.encode.encode_any.Statement.{statement}
-use Rattle.encode.proofs.encode.encode_any.Tie as tie
+use Rattle.write_record.proofs.record.encode_any.Statement.{statement}
+use Rattle.write_record.proofs.record.encode_any.Tie as tie
 
 mul-at : tie.Need-mul-at
 mul-at c = search needs

@@ -1,0 +1,2 @@
+pub mod OperandsLoop
+pub mod RecordLaws

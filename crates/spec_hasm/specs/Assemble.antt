@@ -1,0 +1,157 @@
+-- The passes over a text: `parse_hasm_function`, then `encode_function_body` (document 01, 'Assembler' and its order). Assumes nothing.
+use mathlib.Core.Bool.{Bool}
+use mathlib.Core.List.{List, [], _∷_, _++_}
+use Prim.Native.Nat.{ℕ, suc, _+_}
+use lib.Dec.{eqb, ltb}
+use lib.ListN.{length, getD, drop}
+use Rattle.lists.specs.Choice.{pick, either, within}
+use Rattle.lists.specs.Scan.{all, same}
+use Rattle.lists.specs.Found.{Found}
+use Rattle.lists.specs.Found.Found.{found, missing}
+use Rattle.spec_numbers.specs.LittleEndian.{leBytes}
+use Rattle.spec_sheet.specs.Types.{widthOf}
+use Rattle.spec_body.specs.Record.{lengthOf, countOf}
+use Rattle.spec_listing.specs.Edition.{Edition}
+use Rattle.spec_listing.specs.Listing.{lineLimit}
+use Rattle.spec_hasm.specs.Text.{linesOf}
+use Rattle.spec_hasm.specs.Split.{nameIn, operandsIn}
+use Rattle.spec_hasm.specs.Line.{Statement, statementOf, opcodeOf}
+use Rattle.spec_hasm.specs.Line.Statement.{nothing, labelled, instruction}
+use Rattle.spec_hasm.specs.Token.{Value, tokenValue}
+use Rattle.spec_hasm.specs.Token.Value.{value, refused}
+
+-- a text that was assembled, or its refusal: number, line and operand
+pub data Assembled : Type 0 where
+  assembled : List ℕ → Assembled
+  refusedAt : ℕ → ℕ → ℕ → Assembled
+
+-- 2 refuses any "text byte other than 9, 10, 13, 32 to 126"
+unfoldable pub isTextByte : ℕ → Bool
+isTextByte b = either (within 9 10 b) (either (eqb b 13) (within 32 126 b))
+
+-- "3 then 2, line by line", from line n on, then what follows
+unfoldable pub unlessBadLine : ℕ → List (List ℕ) → Assembled → Assembled
+unlessBadLine n [] rest = rest
+unlessBadLine n (l ∷ ls) rest =
+    pick (ltb lineLimit (length l)) (refusedAt 3 n 0) (pick (all isTextByte l) (unlessBadLine (suc n) ls rest) (refusedAt 2 n 0))
+
+-- the label that waits for an instruction
+pub data Label : Type 0 where
+  none : Label
+  called : List ℕ → Label
+
+-- an instruction of the text: its line, the label it takes, its name and its operands
+pub record Code : Type 0 where
+  pub line : ℕ
+  pub label : Label
+  pub name : List ℕ
+  pub operands : List (List ℕ)
+
+-- "of several in a row, the last" label is taken; one that no instruction takes is lost
+unfoldable pub onStatement : ℕ → Label → Statement → (Label → List Code) → List Code
+onStatement n waiting nothing rest = rest waiting
+onStatement n waiting (labelled t) rest = rest (called t)
+onStatement n waiting (instruction s) rest = record { line = n; label = waiting; name = nameIn s; operands = operandsIn s } ∷ rest none
+
+unfoldable pub codesFrom : Edition → ℕ → Label → List (List ℕ) → List Code
+codesFrom e n waiting [] = []
+codesFrom e n waiting (l ∷ ls) = onStatement n waiting (statementOf e l) λ next. codesFrom e (suc n) next ls
+
+-- the type codes of an opcode
+abbrev pub rowOf : Edition → ℕ → List ℕ
+rowOf e opcode = getD (e .types) opcode []
+
+-- 4 and 5 of an instruction, then what follows
+unfoldable pub onName : Edition → Code → Found → Assembled → Assembled
+onName e c (found opcode) rest = pick (eqb (length (c .operands)) (countOf (rowOf e opcode))) rest (refusedAt 5 (c .line) 0)
+onName e c missing rest = refusedAt 4 (c .line) 0
+
+-- "then 4 and 5 over all lines"
+unfoldable pub unlessBadName : Edition → List Code → Assembled → Assembled
+unlessBadName e [] rest = rest
+unlessBadName e (c ∷ cs) rest = onName e c (opcodeOf e (c .name)) (unlessBadName e cs rest)
+
+-- the opcode of a name that the sheet has
+unfoldable pub foundIn : Found → ℕ
+foundIn (found opcode) = opcode
+foundIn missing = 0
+
+abbrev pub opcodeIn : Edition → Code → ℕ
+opcodeIn e c = foundIn (opcodeOf e (c .name))
+
+abbrev pub sizeIn : Edition → Code → ℕ
+sizeIn e c = lengthOf (rowOf e (opcodeIn e c))
+
+-- "A label is held by its text part and offset"
+pub record LabelAt : Type 0 where
+  pub text : List ℕ
+  pub offset : ℕ
+
+unfoldable pub holding : Label → ℕ → List LabelAt → List LabelAt
+holding none at rest = rest
+holding (called t) at rest = record { text = t; offset = at } ∷ rest
+
+-- the labels that instructions take, the first of which stands at `at`
+unfoldable pub labelsFrom : Edition → ℕ → List Code → List LabelAt
+labelsFrom e at [] = []
+labelsFrom e at (c ∷ cs) = holding (c .label) at (labelsFrom e (at + sizeIn e c) cs)
+
+-- a label's offset: of equal texts the last counts, as a `HashMap` keeps the last one inserted
+unfoldable pub unlessFound : Found → Found → Found
+unlessFound (found offset) first = found offset
+unlessFound missing first = first
+
+unfoldable pub labelOffset : List LabelAt → List ℕ → Found
+labelOffset [] t = missing
+labelOffset (l ∷ ls) t = unlessFound (labelOffset ls t) (pick (same (l .text) t) (found (l .offset)) missing)
+
+-- the bytes of an instruction's operands, or the number and the operand that refuse it
+pub data Operands : Type 0 where
+  written : List ℕ → Operands
+  refusedOperand : ℕ → ℕ → Operands
+
+unfoldable pub prepend : List ℕ → Operands → Operands
+prepend bs (written rest) = written (bs ++ rest)
+prepend bs (refusedOperand number operand) = refusedOperand number operand
+
+-- "Narrow registers, numbers and string ids keep their low bits"
+unfoldable pub onValue : ℕ → ℕ → Value → Operands → Operands
+onValue width operand (value bits) rest = prepend (leBytes width bits) rest
+onValue width operand (refused number) rest = refusedOperand number operand
+
+-- the operands from number n on of the instruction at `at`
+unfoldable pub operandsFrom : Edition → (List ℕ → Found) → ℕ → ℕ → List ℕ → List (List ℕ) → Operands
+operandsFrom e labels at n [] ts = written []
+operandsFrom e labels at n (code ∷ codes) ts =
+    let rest = operandsFrom e labels at (suc n) codes (drop 1 ts) in
+    pick (eqb code 0) (written []) (onValue (widthOf code) n (tokenValue (e .bytes) (e .ends) labels at code (getD ts 0 [])) rest)
+
+unfoldable pub behind : List ℕ → Assembled → Assembled
+behind bs (assembled rest) = assembled (bs ++ rest)
+behind bs (refusedAt number line operand) = refusedAt number line operand
+
+unfoldable pub onOperands : ℕ → ℕ → Operands → Assembled → Assembled
+onOperands opcode line (written bs) rest = behind (opcode ∷ bs) rest
+onOperands opcode line (refusedOperand number operand) rest = refusedAt number line operand
+
+-- "then 6 to 12 by line and operand": the instructions from offset `at` on
+unfoldable pub bytesFrom : Edition → (List ℕ → Found) → ℕ → List Code → Assembled
+bytesFrom e labels at [] = assembled []
+bytesFrom e labels at (c ∷ cs) =
+    let rest = bytesFrom e labels (at + sizeIn e c) cs in
+    onOperands (opcodeIn e c) (c .line) (operandsFrom e labels at 1 (rowOf e (opcodeIn e c)) (c .operands)) rest
+
+-- the instructions of a text
+abbrev pub codesOf : Edition → List ℕ → List Code
+codesOf e s = codesFrom e 1 none (linesOf s)
+
+-- "By passes, not in one"
+unfoldable pub assembleCodes : Edition → List Code → Assembled
+assembleCodes e cs = unlessBadName e cs (bytesFrom e (labelOffset (labelsFrom e 0 cs)) 0 cs)
+
+unfoldable pub assembleText : Edition → List ℕ → Assembled
+assembleText e s = unlessBadLine 1 (linesOf s) (assembleCodes e (codesOf e s))
+
+-- "one entry for each label line that an instruction takes"
+abbrev pub entriesFor : Edition → List ℕ → ℕ
+entriesFor e s = length (labelsFrom e 0 (codesOf e s))

@@ -1,0 +1,1 @@
+// What assembling a text means. There is no code here: see specs/ and proofs/.

@@ -1,1 +1,2 @@
 pub mod WhiteLaws
+pub mod CommentLaws

@@ -1,2 +1,3 @@
 // The lines of an assembler's text and what stands in one: white space, comments, operands between commas.
+pub mod comment;
 pub mod white;

@@ -1,2 +1,4 @@
 pub mod WhiteLaws
 pub mod CommentLaws
+pub mod CommaLaws
+pub mod OperandLaws

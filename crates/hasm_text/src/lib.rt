@@ -1,3 +1,4 @@
 // The lines of an assembler's text and what stands in one: white space, comments, operands between commas.
+pub mod commas;
 pub mod comment;
 pub mod white;

@@ -83,7 +83,7 @@ module _ (s : List ℕ) (i : ℕ) where
   unfolding isQuote
   first-quote h z = rw (eq-eqb _ 34 h, z)
 
-  before-last : (i ≡ 0 → ⊥) → byteBefore s i ≡ getD s (i - 1) 0
+  pub before-last : (i ≡ 0 → ⊥) → byteBefore s i ≡ getD s (i - 1) 0
   before-last z =
       let q : i ≡ suc (i - 1) = omega arith in
       ap (byteBefore s) q

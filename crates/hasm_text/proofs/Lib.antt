@@ -2,3 +2,5 @@ pub mod WhiteLaws
 pub mod CommentLaws
 pub mod CommaLaws
 pub mod OperandLaws
+pub mod LineLaws
+pub mod CheckLaws

@@ -1,15 +1,17 @@
 -- Laws of the first comma outside quotes: at an index, and of the parts that it splits. Assumes nothing.
 use mathlib.Core.Path.{_≡_, refl}
+use mathlib.Core.Bool.{true, false}
 use Prim.Native.Nat.{ℕ, suc, _+_, _≤_, _<_}
 use native.Mathlib.Numerals.{add-one}
 use native.Mathlib.Omega.{arith}
 use mathlib.Core.List.{List, [], _∷_}
-use borrow.Author.Tests.{eq-eqb, ne-eqb}
+use borrow.Author.Tests.{eq-eqb, ne-eqb, eqb-true, eqb-false}
 use lib.ListN.{length, take, drop, getD, drop-of-length-le}
 use lib.Seq.{drop-cons}
 use Rattle.lists.proofs.Tests.{by-eqb}
 use Rattle.spec_hasm.specs.Text.{onto}
 use Rattle.spec_hasm.specs.Split.{splitOutside, splitInside}
+use Rattle.hasm_text.specs.Quotes.{quoteAt}
 use Rattle.hasm_text.specs.Commas.{commaOutside, commaInside, commaAt}
 
 -- the clauses of the count and of the splitting, each by the byte that picks it
@@ -67,20 +69,22 @@ module _ (s : List ℕ) (i : ℕ) where
   inside-end h = rw (drop-of-length-le s h) (omega arith)
 
   module _ (h : i < length s) where
-    pub comma-quote : getD s i 0 ≡ 34 → i + commaAt (drop i s) ≡ i + 1 + commaInside (drop (i + 1) s)
-    comma-quote e = rw (add-one, drop-cons s i 0 h, comma-cons-quote _ _ e) (omega arith)
+    module _ (e : quoteAt false s i ≡ true) where
+      pub comma-quote : i + commaAt (drop i s) ≡ i + 1 + commaInside (drop (i + 1) s)
+      comma-quote = rw (add-one, drop-cons s i 0 h, comma-cons-quote _ _ (eqb-true (getD s i 0) 34 e)) (omega arith)
 
-    pub comma-stop : (getD s i 0 ≡ 34 → ⊥) → getD s i 0 ≡ 44 → i + commaAt (drop i s) ≡ i
-    comma-stop n e = rw (drop-cons s i 0 h, comma-cons-stop _ _ n e) (omega arith)
+      pub inside-quote : i + commaInside (drop i s) ≡ i + 1 + commaAt (drop (i + 1) s)
+      inside-quote = rw (add-one, drop-cons s i 0 h, inside-cons-quote _ _ (eqb-true (getD s i 0) 34 e)) (omega arith)
 
-    pub comma-go : (getD s i 0 ≡ 34 → ⊥) → (getD s i 0 ≡ 44 → ⊥) → i + commaAt (drop i s) ≡ i + 1 + commaAt (drop (i + 1) s)
-    comma-go n m = rw (add-one, drop-cons s i 0 h, comma-cons-go _ _ n m) (omega arith)
+    module _ (n : quoteAt false s i ≡ false) where
+      pub comma-stop : getD s i 0 ≡ 44 → i + commaAt (drop i s) ≡ i
+      comma-stop e = rw (drop-cons s i 0 h, comma-cons-stop _ _ (eqb-false (getD s i 0) 34 n) e) (omega arith)
 
-    pub inside-quote : getD s i 0 ≡ 34 → i + commaInside (drop i s) ≡ i + 1 + commaAt (drop (i + 1) s)
-    inside-quote e = rw (add-one, drop-cons s i 0 h, inside-cons-quote _ _ e) (omega arith)
+      pub comma-go : (getD s i 0 ≡ 44 → ⊥) → i + commaAt (drop i s) ≡ i + 1 + commaAt (drop (i + 1) s)
+      comma-go m = rw (add-one, drop-cons s i 0 h, comma-cons-go _ _ (eqb-false (getD s i 0) 34 n) m) (omega arith)
 
-    pub inside-go : (getD s i 0 ≡ 34 → ⊥) → i + commaInside (drop i s) ≡ i + 1 + commaInside (drop (i + 1) s)
-    inside-go n = rw (add-one, drop-cons s i 0 h, inside-cons-go _ _ n) (omega arith)
+      pub inside-go : i + commaInside (drop i s) ≡ i + 1 + commaInside (drop (i + 1) s)
+      inside-go = rw (add-one, drop-cons s i 0 h, inside-cons-go _ _ (eqb-false (getD s i 0) 34 n)) (omega arith)
 
 -- the parts l of a text s whose first comma outside quotes stands at k
 pub record Splits (s : List ℕ) (k : ℕ) (l : List (List ℕ)) : Type 0 where

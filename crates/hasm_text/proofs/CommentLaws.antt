@@ -1,6 +1,6 @@
 -- Laws of the two scans for a comment, at an index. Assumes nothing.
-use mathlib.Core.Path.{_≡_, refl, ap, _∙_}
-use mathlib.Core.Bool.{true, false, not}
+use mathlib.Core.Path.{_≡_, refl, _∙_}
+use mathlib.Core.Bool.{true, false}
 use Prim.Native.Nat.{ℕ, suc, _+_, _-_, _≤_, _<_}
 use native.Mathlib.Nat.{add-zero}
 use native.Mathlib.Numerals.{add-one}
@@ -13,7 +13,7 @@ use lib.Seq.{drop-cons, getD-drop}
 use Rattle.lists.specs.Choice.{both}
 use Rattle.lists.proofs.Tests.{both-no-right}
 use Rattle.spec_hasm.specs.Comment.{isQuote, isComment, outside, inside}
-use Rattle.hasm_text.specs.Before.{byteBefore}
+use Rattle.hasm_text.specs.Quotes.{byteBefore}
 
 -- the clauses, each by the tests that pick it
 module _ (p b : ℕ) (s : List ℕ) where
@@ -72,25 +72,6 @@ module _ (s : List ℕ) (i : ℕ) where
     pub inside-go : isQuote (byteBefore s i) (getD s i 0) ≡ false
         → i + inside (byteBefore s i) (drop i s) ≡ i + 1 + inside (byteBefore s (i + 1)) (drop (i + 1) s)
     inside-go e = rw (before-next s i, add-one, drop-cons s i 0 h, inside-cons-go _ _ _ e) (omega arith)
-
--- the test for a quote, as the code makes it
-module _ (s : List ℕ) (i : ℕ) where
-  pub no-quote : (getD s i 0 ≡ 34 → ⊥) → isQuote (byteBefore s i) (getD s i 0) ≡ false
-  unfolding isQuote
-  no-quote h = rw (ne-eqb _ 34 h)
-
-  pub first-quote : getD s i 0 ≡ 34 → i ≡ 0 → isQuote (byteBefore s i) (getD s i 0) ≡ true
-  unfolding isQuote
-  first-quote h z = rw (eq-eqb _ 34 h, z)
-
-  pub before-last : (i ≡ 0 → ⊥) → byteBefore s i ≡ getD s (i - 1) 0
-  before-last z =
-      let q : i ≡ suc (i - 1) = omega arith in
-      ap (byteBefore s) q
-
-  pub later-quote : getD s i 0 ≡ 34 → (i ≡ 0 → ⊥) → isQuote (byteBefore s i) (getD s i 0) ≡ not (eqb (getD s (i - 1) 0) 92)
-  unfolding isQuote
-  later-quote h z = rw (eq-eqb _ 34 h, before-last z)
 
 -- the test for two slashes
 comment-at : (s : List ℕ) (i : ℕ) → isComment (drop i s) ≡ both (eqb (getD s i 0) 47) (eqb (getD s (i + 1) 0) 47)

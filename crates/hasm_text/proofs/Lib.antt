@@ -1,4 +1,5 @@
 pub mod WhiteLaws
+pub mod QuoteLaws
 pub mod CommentLaws
 pub mod CommaLaws
 pub mod OperandLaws

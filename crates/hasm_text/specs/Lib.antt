@@ -1,5 +1,5 @@
 pub mod Spaces
-pub mod Before
+pub mod Quotes
 pub mod Commas
 pub mod Lines
 pub mod Refusals

@@ -4,6 +4,7 @@ ghost use Prim.Native.Nat.{_+_, _-_, _≤_};
 ghost use lib.ListN.{length, drop};
 ghost use Rattle.spec_hasm.specs.Split.{splitOutside, tokens};
 ghost use Rattle.hasm_text.specs.Commas.{commaAt, commaInside};
+use crate::quote::is_quote_at;
 use crate::white::trim;
 
 // Where the first comma outside quotes stands, or the end, from a place outside quotes on. Each quote takes stack, so a line's
@@ -14,7 +15,8 @@ pub fn comma_from(s: &[u8], at: usize) -> usize
 {
     let mut i = at;
     while i < s.len() {
-        if s[i] == 34 {
+        let opens = is_quote_at(s, i, false);
+        if opens {
             return comma_inside(s, i + 1);
         }
         if s[i] == 44 {
@@ -32,7 +34,8 @@ fn comma_inside(s: &[u8], at: usize) -> usize
 {
     let mut i = at;
     while i < s.len() {
-        if s[i] == 34 {
+        let closes = is_quote_at(s, i, false);
+        if closes {
             return comma_from(s, i + 1);
         }
         i += 1;

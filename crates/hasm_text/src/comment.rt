@@ -1,24 +1,10 @@
 // A line without its comment.
 ghost use mathlib.Core.Path.{_≡_};
 ghost use Prim.Native.Nat.{_+_, _-_, _<_, _≤_};
-ghost use lib.ListN.{length, drop, getD};
-ghost use Rattle.spec_hasm.specs.Comment.{isQuote, isComment, outside, inside, stripComment};
-ghost use Rattle.hasm_text.specs.Before.{byteBefore};
-
-// Whether a quote stands at i that no backslash stands before. The byte before is looked at only behind a quote, as most bytes
-// are none.
-fn is_quote_at(s: &[u8], i: usize) -> bool
-    requires { ⌜ i < length (now s) ⌝ }
-    ensures { λ r. ⌜ r ≡ isQuote (byteBefore (now (s .entry)) i) (getD (now (s .entry)) i 0) ⌝ }
-{
-    if s[i] != 34 {
-        return false;
-    }
-    if i == 0 {
-        return true;
-    }
-    s[i - 1] != 92
-}
+ghost use lib.ListN.{length, drop};
+ghost use Rattle.spec_hasm.specs.Comment.{isComment, outside, inside, stripComment};
+ghost use Rattle.hasm_text.specs.Quotes.{byteBefore};
+use crate::quote::is_quote_at;
 
 // Whether two slashes stand at i.
 fn is_comment_at(s: &[u8], i: usize) -> bool
@@ -42,7 +28,8 @@ fn outside_quotes(s: &[u8], at: usize) -> usize
 {
     let mut i = at;
     while i < s.len() {
-        if is_quote_at(s, i) {
+        let opens = is_quote_at(s, i, true);
+        if opens {
             return inside_quotes(s, i + 1);
         }
         if is_comment_at(s, i) {
@@ -60,7 +47,8 @@ fn inside_quotes(s: &[u8], at: usize) -> usize
 {
     let mut i = at;
     while i < s.len() {
-        if is_quote_at(s, i) {
+        let closes = is_quote_at(s, i, true);
+        if closes {
             return outside_quotes(s, i + 1);
         }
         i += 1;

@@ -2,4 +2,5 @@
 pub mod commas;
 pub mod comment;
 pub mod lines;
+pub mod quote;
 pub mod white;

@@ -89,10 +89,12 @@ pub fn check_lines(text: &[u8]) -> Checked
     while at < text.len() {
         let end = line_end(text, at);
         let line = line_of(text, at, end);
-        if 4096 < line.len() {
+        let long = 4096 < line.len();
+        let good = is_text(line);
+        if long {
             return Checked::Long(n);
         }
-        if !is_text(line) {
+        if !good {
             return Checked::Bad(n);
         }
         at = end + 1;

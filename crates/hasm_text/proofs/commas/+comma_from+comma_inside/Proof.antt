@@ -14,6 +14,7 @@ use Rattle.hasm_text.proofs.commas.+comma_from+comma_inside.Lts-comma_f
 use Rattle.hasm_text.proofs.commas.comma_inside.Reads as comma-inside
 use Rattle.hasm_text.proofs.commas.comma_inside.Kinds as comma-inside-kinds
 use Rattle.hasm_text.proofs.commas.+comma_from+comma_inside.Lts-comma_inside as comma-inside-lts
+use Rattle.hasm_text.proofs.quote.is_quote_at.Reads as is-quote-at-reads
 use Rattle.hasm_text.proofs.commas.+comma_from+comma_inside.{statement}
 use Rattle.hasm_text.proofs.commas.+comma_from+comma_inside.Tie.{close}
 
@@ -50,76 +51,94 @@ abbrev comma-from-μ-loop : comma-from-lts.MeasureT-loop
 comma-from-μ-loop s at i₀ i = length s - i
 
 comma-from-loop-holds : (t : ℕ) → comma-from-lts.Need-loop-holds (
+  is-quote-at-reads.Asked,
+  is-quote-at-reads.Learnt,
   comma-inside-below t,
   comma-inside.Post,
 ) (comma-from-at t) comma-from.Post comma-from-Inv-loop comma-from-μ-loop
 comma-from-loop-holds t c = search needs
 
-comma-from-shared-slice-read-if1 : (t : ℕ) → comma-from-lts.Need-shared-slice-read-if1 (
+comma-from-is-quote-at-requires : (t : ℕ) → comma-from-lts.Need-is-quote-at-requires (
+  is-quote-at-reads.Asked,
+  is-quote-at-reads.Learnt,
   comma-inside-below t,
   comma-inside.Post,
 ) (comma-from-at t) comma-from.Post comma-from-Inv-loop comma-from-μ-loop
-comma-from-shared-slice-read-if1 t c = search needs
+comma-from-is-quote-at-requires t c κs = search needs
 
 comma-from-add-comma-inside : (t : ℕ) → comma-from-lts.Need-add-comma-inside (
+  is-quote-at-reads.Asked,
+  is-quote-at-reads.Learnt,
   comma-inside-below t,
   comma-inside.Post,
 ) (comma-from-at t) comma-from.Post comma-from-Inv-loop comma-from-μ-loop
 comma-from-add-comma-inside t c = search needs
 
 comma-from-comma-inside-requires : (t : ℕ) → comma-from-lts.Need-comma-inside-requires (
+  is-quote-at-reads.Asked,
+  is-quote-at-reads.Learnt,
   comma-inside-below t,
   comma-inside.Post,
 ) (comma-from-at t) comma-from.Post comma-from-Inv-loop comma-from-μ-loop
 comma-from-comma-inside-requires t c κs = search needs
 
 comma-from-returns : (t : ℕ) → comma-from-lts.Need-returns (
+  is-quote-at-reads.Asked,
+  is-quote-at-reads.Learnt,
   comma-inside-below t,
   comma-inside.Post,
 ) (comma-from-at t) comma-from.Post comma-from-Inv-loop comma-from-μ-loop
 comma-from-returns t c =
     let l = c .before .before .before .before .loop in
-    (c .comma-inside .ensures .0 ∙ sym (l .inv .2 ∙ comma-quote (c .before .before .before .before .before .before .args .s .now) (l .i) (c .before .before .before .loop-test .taken) (c .before .if1 .taken)), c .comma-inside .ensures .1)
+    (c .comma-inside .ensures .0 ∙ sym (l .inv .2 ∙ comma-quote (c .before .before .before .before .before .before .args .s .now) (l .i) (c .before .before .before .loop-test .taken) (sym (c .before .before .is-quote-at .ensures) ∙ c .before .if1 .taken)), c .comma-inside .ensures .1)
 
 comma-from-shared-slice-read-if2 : (t : ℕ) → comma-from-lts.Need-shared-slice-read-if2 (
+  is-quote-at-reads.Asked,
+  is-quote-at-reads.Learnt,
   comma-inside-below t,
   comma-inside.Post,
 ) (comma-from-at t) comma-from.Post comma-from-Inv-loop comma-from-μ-loop
 comma-from-shared-slice-read-if2 t c = search needs
 
 comma-from-returns-2 : (t : ℕ) → comma-from-lts.Need-returns-2 (
+  is-quote-at-reads.Asked,
+  is-quote-at-reads.Learnt,
   comma-inside-below t,
   comma-inside.Post,
 ) (comma-from-at t) comma-from.Post comma-from-Inv-loop comma-from-μ-loop
 comma-from-returns-2 t c =
     let l = c .before .before .before .before .before .loop in
-    (sym (l .inv .2 ∙ comma-stop (c .before .before .before .before .before .before .before .args .s .now) (l .i) (c .before .before .before .before .loop-test .taken) (c .before .before .if1 .left) (c .if2 .taken)), l .inv .1)
+    (sym (l .inv .2 ∙ comma-stop (c .before .before .before .before .before .before .before .args .s .now) (l .i) (c .before .before .before .before .loop-test .taken) (sym (c .before .before .before .is-quote-at .ensures) ∙ c .before .before .if1 .left) (c .if2 .taken)), l .inv .1)
 
-comma-from-add-i :
-    (t : ℕ) →
-    comma-from-lts.Need-add-i
-    (comma-inside-below t, comma-inside.Post)
-    (comma-from-at t)
-    comma-from.Post
-    comma-from-Inv-loop
-    comma-from-μ-loop
+comma-from-add-i : (t : ℕ) → comma-from-lts.Need-add-i (
+  is-quote-at-reads.Asked,
+  is-quote-at-reads.Learnt,
+  comma-inside-below t,
+  comma-inside.Post,
+) (comma-from-at t) comma-from.Post comma-from-Inv-loop comma-from-μ-loop
 comma-from-add-i t c = search needs
 
 comma-from-loop-less : (t : ℕ) → comma-from-lts.Need-loop-less (
+  is-quote-at-reads.Asked,
+  is-quote-at-reads.Learnt,
   comma-inside-below t,
   comma-inside.Post,
 ) (comma-from-at t) comma-from.Post comma-from-Inv-loop comma-from-μ-loop
 comma-from-loop-less t c = search needs
 
 comma-from-loop-again : (t : ℕ) → comma-from-lts.Need-loop-again (
+  is-quote-at-reads.Asked,
+  is-quote-at-reads.Learnt,
   comma-inside-below t,
   comma-inside.Post,
 ) (comma-from-at t) comma-from.Post comma-from-Inv-loop comma-from-μ-loop
 comma-from-loop-again t c =
     let l = c .before .before .before .before .before .loop in
-    (omega arith, omega arith, l .inv .2 ∙ comma-go (c .before .before .before .before .before .before .before .args .s .now) (l .i) (c .before .before .before .before .loop-test .taken) (c .before .before .if1 .left) (c .if2 .left))
+    (omega arith, omega arith, l .inv .2 ∙ comma-go (c .before .before .before .before .before .before .before .args .s .now) (l .i) (c .before .before .before .before .loop-test .taken) (sym (c .before .before .before .is-quote-at .ensures) ∙ c .before .before .if1 .left) (c .if2 .left))
 
 comma-from-returns-3 : (t : ℕ) → comma-from-lts.Need-returns-3 (
+  is-quote-at-reads.Asked,
+  is-quote-at-reads.Learnt,
   comma-inside-below t,
   comma-inside.Post,
 ) (comma-from-at t) comma-from.Post comma-from-Inv-loop comma-from-μ-loop
@@ -134,62 +153,76 @@ abbrev comma-inside-μ-loop : comma-inside-lts.MeasureT-loop
 comma-inside-μ-loop s at i₀ i = length s - i
 
 comma-inside-loop-holds : (t : ℕ) → comma-inside-lts.Need-loop-holds (
+  is-quote-at-reads.Asked,
+  is-quote-at-reads.Learnt,
   comma-from-below t,
   comma-from.Post,
 ) (comma-inside-at t) comma-inside.Post comma-inside-Inv-loop comma-inside-μ-loop
 comma-inside-loop-holds t c = search needs
 
-comma-inside-shared-slice-read-if1 : (t : ℕ) → comma-inside-lts.Need-shared-slice-read-if1 (
+comma-inside-is-quote-at-requires : (t : ℕ) → comma-inside-lts.Need-is-quote-at-requires (
+  is-quote-at-reads.Asked,
+  is-quote-at-reads.Learnt,
   comma-from-below t,
   comma-from.Post,
 ) (comma-inside-at t) comma-inside.Post comma-inside-Inv-loop comma-inside-μ-loop
-comma-inside-shared-slice-read-if1 t c = search needs
+comma-inside-is-quote-at-requires t c κs = search needs
 
 comma-inside-add-comma-from : (t : ℕ) → comma-inside-lts.Need-add-comma-from (
+  is-quote-at-reads.Asked,
+  is-quote-at-reads.Learnt,
   comma-from-below t,
   comma-from.Post,
 ) (comma-inside-at t) comma-inside.Post comma-inside-Inv-loop comma-inside-μ-loop
 comma-inside-add-comma-from t c = search needs
 
 comma-inside-comma-from-requires : (t : ℕ) → comma-inside-lts.Need-comma-from-requires (
+  is-quote-at-reads.Asked,
+  is-quote-at-reads.Learnt,
   comma-from-below t,
   comma-from.Post,
 ) (comma-inside-at t) comma-inside.Post comma-inside-Inv-loop comma-inside-μ-loop
 comma-inside-comma-from-requires t c κs = search needs
 
 comma-inside-returns : (t : ℕ) → comma-inside-lts.Need-returns (
+  is-quote-at-reads.Asked,
+  is-quote-at-reads.Learnt,
   comma-from-below t,
   comma-from.Post,
 ) (comma-inside-at t) comma-inside.Post comma-inside-Inv-loop comma-inside-μ-loop
 comma-inside-returns t c =
     let l = c .before .before .before .before .loop in
-    (c .comma-from .ensures .0 ∙ sym (l .inv .2 ∙ inside-quote (c .before .before .before .before .before .before .args .s .now) (l .i) (c .before .before .before .loop-test .taken) (c .before .if1 .taken)), c .comma-from .ensures .1)
+    (c .comma-from .ensures .0 ∙ sym (l .inv .2 ∙ inside-quote (c .before .before .before .before .before .before .args .s .now) (l .i) (c .before .before .before .loop-test .taken) (sym (c .before .before .is-quote-at .ensures) ∙ c .before .if1 .taken)), c .comma-from .ensures .1)
 
-comma-inside-add-i :
-    (t : ℕ) →
-    comma-inside-lts.Need-add-i
-    (comma-from-below t, comma-from.Post)
-    (comma-inside-at t)
-    comma-inside.Post
-    comma-inside-Inv-loop
-    comma-inside-μ-loop
+comma-inside-add-i : (t : ℕ) → comma-inside-lts.Need-add-i (
+  is-quote-at-reads.Asked,
+  is-quote-at-reads.Learnt,
+  comma-from-below t,
+  comma-from.Post,
+) (comma-inside-at t) comma-inside.Post comma-inside-Inv-loop comma-inside-μ-loop
 comma-inside-add-i t c = search needs
 
 comma-inside-loop-less : (t : ℕ) → comma-inside-lts.Need-loop-less (
+  is-quote-at-reads.Asked,
+  is-quote-at-reads.Learnt,
   comma-from-below t,
   comma-from.Post,
 ) (comma-inside-at t) comma-inside.Post comma-inside-Inv-loop comma-inside-μ-loop
 comma-inside-loop-less t c = search needs
 
 comma-inside-loop-again : (t : ℕ) → comma-inside-lts.Need-loop-again (
+  is-quote-at-reads.Asked,
+  is-quote-at-reads.Learnt,
   comma-from-below t,
   comma-from.Post,
 ) (comma-inside-at t) comma-inside.Post comma-inside-Inv-loop comma-inside-μ-loop
 comma-inside-loop-again t c =
     let l = c .before .before .before .loop in
-    (omega arith, omega arith, l .inv .2 ∙ inside-go (c .before .before .before .before .before .args .s .now) (l .i) (c .before .before .loop-test .taken) (c .if1 .left))
+    (omega arith, omega arith, l .inv .2 ∙ inside-go (c .before .before .before .before .before .args .s .now) (l .i) (c .before .before .loop-test .taken) (sym (c .before .is-quote-at .ensures) ∙ c .if1 .left))
 
 comma-inside-returns-2 : (t : ℕ) → comma-inside-lts.Need-returns-2 (
+  is-quote-at-reads.Asked,
+  is-quote-at-reads.Learnt,
   comma-from-below t,
   comma-from.Post,
 ) (comma-inside-at t) comma-inside.Post comma-inside-Inv-loop comma-inside-μ-loop
@@ -199,6 +232,8 @@ comma-inside-returns-2 t c =
 
 pub +comma-from+comma-inside-spec : {M : Type 1} → statement M
 +comma-from+comma-inside-spec = close μ-comma-from μ-comma-inside (λ t. comma-from-lts.spec (
+  is-quote-at-reads.Asked,
+  is-quote-at-reads.Learnt,
   comma-inside-below t,
   comma-inside.Post,
 )
@@ -207,7 +242,7 @@ pub +comma-from+comma-inside-spec : {M : Type 1} → statement M
     comma-from-Inv-loop
     comma-from-μ-loop
     (comma-from-loop-holds t)
-    (comma-from-shared-slice-read-if1 t)
+    (comma-from-is-quote-at-requires t)
     (comma-from-add-comma-inside t)
     (comma-from-comma-inside-requires t)
     (comma-from-returns t)
@@ -218,13 +253,13 @@ pub +comma-from+comma-inside-spec : {M : Type 1} → statement M
     (comma-from-loop-again t)
     (comma-from-returns-3 t))
     λ t. comma-inside-lts.spec
-    (comma-from-below t, comma-from.Post)
+    (is-quote-at-reads.Asked, is-quote-at-reads.Learnt, comma-from-below t, comma-from.Post)
     (comma-inside-at t)
     comma-inside.Post
     comma-inside-Inv-loop
     comma-inside-μ-loop
     (comma-inside-loop-holds t)
-    (comma-inside-shared-slice-read-if1 t)
+    (comma-inside-is-quote-at-requires t)
     (comma-inside-add-comma-from t)
     (comma-inside-comma-from-requires t)
     (comma-inside-returns t)

@@ -3,7 +3,7 @@ use native.Mathlib.Omega.{arith}
 use Prim.Native.Nat.{_-_, _+_, _≤_}
 use lib.ListN.{length, drop}
 use Rattle.spec_hasm.specs.Comment.{outside, inside}
-use Rattle.hasm_text.specs.Before.{byteBefore}
+use Rattle.hasm_text.specs.Quotes.{byteBefore}
 use Rattle.hasm_text.proofs.CommentLaws.{outside-end, inside-end, outside-quote, outside-stop, outside-go, inside-quote, inside-go}
 use borrow.Author.Needs.{needs}
 use Prim.Native.Nat.{ℕ, _<_}
@@ -16,7 +16,7 @@ use Rattle.hasm_text.proofs.comment.outside_quotes.Reads as outside-quo
 use Rattle.hasm_text.proofs.comment.outside_quotes.Kinds as outside-quotes-kinds
 use Rattle.hasm_text.proofs.comment.+inside_quotes+outside_quotes.Lts-outside_quotes as outside-quotes-lts
 use Rattle.hasm_text.proofs.comment.is_comment_at.Reads as is-comment-at-reads
-use Rattle.hasm_text.proofs.comment.is_quote_at.Reads as is-quote-at-reads
+use Rattle.hasm_text.proofs.quote.is_quote_at.Reads as is-quote-at-reads
 use Rattle.hasm_text.proofs.comment.+inside_quotes+outside_quotes.{statement}
 use Rattle.hasm_text.proofs.comment.+inside_quotes+outside_quotes.Tie.{close}
 

@@ -11,10 +11,12 @@ use Rattle.lists.specs.Scan.{part}
 abbrev pub notFeed : ℕ → Bool
 notFeed b = not (eqb b 10)
 
--- how many bytes a line has that starts at `at` and whose LF, or the text's end, stands at `end`: a CR counts unless an LF follows
+-- how many bytes a line has that starts at `at` and whose LF, or the text's end, stands at `end`: "line end (LF or CR LF) not
+-- counted"
 unfoldable pub lineLength : List ℕ → ℕ → ℕ → ℕ
 lineLength s at end =
     pick (both (ltb end (length s)) (both (ltb at end) (eqb (getD s (end - 1) 0) 13))) (end - at - 1) (end - at)
 
+-- the line itself
 abbrev pub lineIn : List ℕ → ℕ → ℕ → List ℕ
 lineIn s at end = part s at (lineLength s at end)

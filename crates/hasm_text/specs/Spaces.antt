@@ -3,7 +3,7 @@ use Prim.Native.Nat.{ℕ}
 use mathlib.Core.Bool.{Bool, true, false}
 use Rattle.spec_hasm.specs.Text.{isWhite, isSolid}
 
--- white space, or what is none: one loop serves `trim_start` and the name's end, "the first white space"
+-- white space, or what is none: one loop serves `trim_start` and the name, which ends at white space
 abbrev pub isSpace : Bool → ℕ → Bool
 isSpace true b = isWhite b
 isSpace false b = isSolid b

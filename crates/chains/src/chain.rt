@@ -1,0 +1,27 @@
+// Building the chains: all buckets empty, then each index from the last down is put in front of its chain.
+ghost use mathlib.Core.Path.{_≡_};
+ghost use Prim.Native.Nat.{_<_, _≤_, _^_};
+ghost use lib.ListN.{length, getD, set, replicate};
+
+// Every chain ends at once: its head is n, which is no index.
+pub fn empty_all(heads: &mut [u32], n: usize)
+    requires { ⌜ n < 2 ^ 32 ⌝ }
+    ensures { λ _. ⌜ now (heads .exit) ≡ replicate (length (now (heads .entry))) n ⌝ }
+{
+    let end = n as u32;
+    let mut i: usize = 0;
+    while i < heads.len() {
+        heads[i] = end;
+        i += 1;
+    }
+}
+
+// Puts index i in front of the chain of bucket h.
+pub fn insert(heads: &mut [u32], nexts: &mut [u32], h: usize, i: usize)
+    requires { ⌜ (h < length (now heads)) × (i < length (now nexts)) × (i < 2 ^ 32) ⌝ }
+    ensures { λ _. ⌜ now (heads .exit) ≡ set (now (heads .entry)) h i ⌝ }
+    ensures { λ _. ⌜ now (nexts .exit) ≡ set (now (nexts .entry)) i (getD (now (heads .entry)) h 0) ⌝ }
+{
+    nexts[i] = heads[h];
+    heads[h] = i as u32;
+}

@@ -97,18 +97,22 @@ chained-none hash buckets n heads nexts e l = record {
 }
 
 -- the index in front of those in chains is put in front of the chain of its hash
-module _ (hash : ℕ → ℕ) (buckets n k h : ℕ) (heads nexts heads′ nexts′ : List ℕ) where
-  pub chained-more : Chained hash buckets n (k + 1) heads nexts → k < n → h ≡ hash k → h < buckets → nexts′ ≡ set nexts k (getD heads h 0) → heads′ ≡ set heads h k → Chained hash buckets n k heads′ nexts′
-  chained-more c l e b p q = record {
+module _ (hash : ℕ → ℕ) (buckets n j k h : ℕ) (heads nexts heads′ nexts′ : List ℕ) where
+  pub chained-more : Chained hash buckets n j heads nexts → j ≡ k + 1 → k < n → h ≡ hash k → h < buckets → nexts′ ≡ set nexts k (getD heads h 0) → heads′ ≡ set heads h k → Chained hash buckets n k heads′ nexts′
+  chained-more c s l e b p q = record {
     bucket-count = rw q (length-set heads h k ∙ c .bucket-count);
     room = rw p (omega (arith, length-set nexts k (getD heads h 0), c .room));
     head-of = λ g o. by-eqb g h
         (λ z. rw (q, z, getD-set-same heads h k 0 (omega (arith, c .bucket-count))) (sym (first-here hash h n k l (sym e))))
-        (λ z. rw (q, getD-set-other heads h g k 0 z) (c .head-of g o ∙ sym (first-next hash g n k l (λ y. z (sym y ∙ sym e)))));
+        (λ z. rw (q, getD-set-other heads h g k 0 z) (c .head-of g o ∙ ap (firstWith hash g n) s ∙ sym (first-next hash g n k l (λ y. z (sym y ∙ sym e)))));
     next-of = λ i a o. by-eqb i k
-        (λ z. rw (p, z, getD-set-same nexts k (getD heads h 0) 0 (omega (arith, c .room))) (c .head-of h b ∙ ap (λ (g : ℕ). firstWith hash g n (k + 1)) e))
-        (λ z. rw (p, getD-set-other nexts k i (getD heads h 0) 0 z) (c .next-of i (omega (arith, z)) o));
+        (λ z. rw (p, z, getD-set-same nexts k (getD heads h 0) 0 (omega (arith, c .room))) (c .head-of h b ∙ ap (firstWith hash h n) s ∙ ap (λ (g : ℕ). firstWith hash g n (k + 1)) e))
+        (λ z. rw (p, getD-set-other nexts k i (getD heads h 0) 0 z) (c .next-of i (omega (arith, z, s)) o));
   }
+
+-- every step of a walk goes on, so that it ends
+pub chain-rises : (hash : ℕ → ℕ) (buckets n : ℕ) (heads nexts : List ℕ) → Chained hash buckets n 0 heads nexts → (i : ℕ) → i < n → i < getD nexts i 0
+chain-rises hash buckets n heads nexts c i l = rw (c .next-of i (omega arith) l) (omega (arith, first-least hash (hash i) n (i + 1)))
 
 -- a walk of a chain: its start, and the step behind an index that is not the one looked for
 module _ {A : Type 0} (hash : ℕ → ℕ) (buckets n h : ℕ) (heads nexts : List ℕ) (answer : ℕ → A) (c : Chained hash buckets n 0 heads nexts) (b : h < buckets) (f : (i : ℕ) → i < n → (hash i ≡ h → ⊥) → answer i ≡ answer (i + 1)) where
@@ -117,10 +121,6 @@ module _ {A : Type 0} (hash : ℕ → ℕ) (buckets n h : ℕ) (heads nexts : Li
 
   pub walk-start : Walk hash n h answer (getD heads h 0)
   walk-start = rw (c .head-of h b) (on-from 0 (omega arith) refl)
-
-  -- every step goes on, so a walk ends
-  pub walk-rises : (i : ℕ) → i < n → i < getD nexts i 0
-  walk-rises i l = rw (c .next-of i (omega arith) l) (omega (arith, first-least hash (hash i) n (i + 1)))
 
   pub walk-next : (i : ℕ) → Walk hash n h answer i → i < n → answer i ≡ answer (i + 1) → Walk hash n h answer (getD nexts i 0)
   walk-next i w l e =

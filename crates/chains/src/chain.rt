@@ -1,6 +1,6 @@
-// Building the chains: all buckets empty, then each index from the last down is put in front of its chain.
+// Building the chains, all buckets empty, then each index from the last down in front of its chain; and following them.
 ghost use mathlib.Core.Path.{_≡_};
-ghost use Prim.Native.Nat.{_<_, _≤_, _^_};
+ghost use Prim.Native.Nat.{_<_, _^_};
 ghost use lib.ListN.{length, getD, set, replicate};
 
 // Every chain ends at once: its head is n, which is no index.
@@ -24,4 +24,18 @@ pub fn insert(heads: &mut [u32], nexts: &mut [u32], h: usize, i: usize)
 {
     nexts[i] = heads[h];
     heads[h] = i as u32;
+}
+
+fn wide(x: u32) -> usize
+    ensures { λ r. ⌜ r ≡ x ⌝ }
+{
+    x as usize
+}
+
+// The index that a head or a next leads to.
+pub fn link_at(links: &[u32], i: usize) -> usize
+    requires { ⌜ i < length (now links) ⌝ }
+    ensures { λ r. ⌜ r ≡ getD (now (links .entry)) i 0 ⌝ }
+{
+    wide(links[i])
 }

@@ -18,7 +18,7 @@ use sheet_line::scan::Step;
 use slices::search::Found;
 
 // Whether an opcode has this name.
-fn has_name(s: &[u8], name: &[u8], row: [usize; 4]) -> bool
+pub fn has_name(s: &[u8], name: &[u8], row: [usize; 4]) -> bool
     ensures { λ r. ⌜ r ≡ hasName (now (s .entry)) (now (name .entry)) row ⌝ }
 {
     let start = row[2];

@@ -1,0 +1,83 @@
+use Rattle.names.proofs.NameWalk.{name-start, name-next, name-found, name-missing}
+use Rattle.chains.proofs.ChainLaws.{chain-rises}
+use mathlib.Core.Path.{sym, _∙_}
+use native.Mathlib.Omega.{arith}
+use Rattle.names.specs.Keys.{bucketAt, nameFrom}
+use Rattle.chains.specs.Chain.{Walk}
+use Prim.Native.Nat.{_-_}
+use borrow.Author.Needs.{needs}
+use Rattle.names.proofs.index.find_indexed.Statement.{statement}
+use Rattle.names.proofs.index.find_indexed.Tie as tie
+
+abbrev Inv-loop : tie.InvT-loop
+Inv-loop source ops heads nexts name rows h k₀ k = Walk (bucketAt source ops) 256 h (nameFrom source name ops) k
+
+abbrev μ-loop : tie.MeasureT-loop
+μ-loop source ops heads nexts name rows h k₀ k = 256 - k
+
+bucket-of-requires : tie.Need-bucket-of-requires Inv-loop μ-loop
+bucket-of-requires c κs = search needs
+
+link-at-requires : tie.Need-link-at-requires Inv-loop μ-loop
+link-at-requires c κs = search needs
+
+loop-holds : tie.Need-loop-holds Inv-loop μ-loop
+loop-holds c =
+    let a = c .before .before .before .before .before .before .before .args in
+    let b = c .before .bucket-of in
+    rw (c .link-at .ensures) (name-start (a .source .now) (a .name .now) (a .ops .now) (b .result) (b .ensures .0) (a .heads .now) (a .nexts .now) (c .before .before .before .before .before .before .before .pre) (b .ensures .1))
+
+mul-row : tie.Need-mul-row Inv-loop μ-loop
+mul-row c = search needs
+
+shared-slice-copy-out-row : tie.Need-shared-slice-copy-out-row Inv-loop μ-loop
+shared-slice-copy-out-row c = search needs
+
+has-name-requires : tie.Need-has-name-requires Inv-loop μ-loop
+has-name-requires c κs = search needs
+
+returns : tie.Need-returns Inv-loop μ-loop
+returns c =
+    let a = c .before .before .before .before .before .before .before .before .before .before .before .before .args in
+    let l = c .before .before .before .before .loop in
+    name-found (a .source .now) (a .name .now) (a .ops .now) (c .before .before .before .before .before .before .bucket-of .result) (l .k) (l .inv) (sym (c .before .has-name .ensures) ∙ c .if1 .taken)
+
+link-at-requires-2 : tie.Need-link-at-requires-2 Inv-loop μ-loop
+link-at-requires-2 c κs = search needs
+
+loop-less : tie.Need-loop-less Inv-loop μ-loop
+loop-less c =
+    let a = c .before .before .before .before .before .before .before .before .before .before .before .before .before .args in
+    let l = c .before .before .before .before .before .loop in
+    omega (arith, c .link-at2 .ensures, chain-rises (bucketAt (a .source .now) (a .ops .now)) 1024 256 (a .heads .now) (a .nexts .now) (c .before .before .before .before .before .before .before .before .before .before .before .before .before .pre) (l .k) (omega arith))
+
+loop-again : tie.Need-loop-again Inv-loop μ-loop
+loop-again c =
+    let a = c .before .before .before .before .before .before .before .before .before .before .before .before .before .args in
+    let b = c .before .before .before .before .before .before .before .bucket-of in
+    let l = c .before .before .before .before .before .loop in
+    rw (c .link-at2 .ensures) (name-next (a .source .now) (a .name .now) (a .ops .now) (b .result) (b .ensures .0) (a .heads .now) (a .nexts .now) (c .before .before .before .before .before .before .before .before .before .before .before .before .before .pre) (b .ensures .1) (l .k) (l .inv) (omega arith) (sym (c .before .before .has-name .ensures) ∙ c .before .if1 .left))
+
+returns-2 : tie.Need-returns-2 Inv-loop μ-loop
+returns-2 c =
+    let a = c .before .before .before .before .before .before .before .before .before .args in
+    let l = c .before .loop in
+    name-missing (a .source .now) (a .name .now) (a .ops .now) (c .before .before .before .bucket-of .result) (l .k) (l .inv) (omega arith)
+
+pub find-indexed-spec : {M : Type 1} → statement M
+find-indexed-spec =
+    tie.close
+    (tie.spec
+    Inv-loop
+    μ-loop
+    bucket-of-requires
+    link-at-requires
+    loop-holds
+    mul-row
+    shared-slice-copy-out-row
+    has-name-requires
+    returns
+    link-at-requires-2
+    loop-less
+    loop-again
+    returns-2)

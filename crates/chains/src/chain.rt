@@ -32,10 +32,10 @@ fn wide(x: u32) -> usize
     x as usize
 }
 
-// The index that a head or a next leads to.
-pub fn link_at(links: &[u32], i: usize) -> usize
-    requires { ⌜ i < length (now links) ⌝ }
-    ensures { λ r. ⌜ r ≡ getD (now (links .entry)) i 0 ⌝ }
+// An element as an index, as heads and nexts hold them.
+pub fn index_at(s: &[u32], i: usize) -> usize
+    requires { ⌜ i < length (now s) ⌝ }
+    ensures { λ r. ⌜ r ≡ getD (now (s .entry)) i 0 ⌝ }
 {
-    wide(links[i])
+    wide(s[i])
 }

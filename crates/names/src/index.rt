@@ -54,13 +54,13 @@ pub fn find_indexed(
 {
     let rows: &[[usize; 4]] = ops;
     let h = bucket_of(name);
-    let mut k = chains::chain::link_at(heads, h);
+    let mut k = chains::chain::index_at(heads, h);
     while k < rows.len() {
         let row = rows[k];
         if sheet::opcode::has_name(source, name, row) {
             return Found::At(k);
         }
-        k = chains::chain::link_at(nexts, k);
+        k = chains::chain::index_at(nexts, k);
     }
     Found::Missing
 }

@@ -18,14 +18,14 @@ abbrev μ-loop : tie.MeasureT-loop
 bucket-of-requires : tie.Need-bucket-of-requires Inv-loop μ-loop
 bucket-of-requires c κs = search needs
 
-link-at-requires : tie.Need-link-at-requires Inv-loop μ-loop
-link-at-requires c κs = search needs
+index-at-requires : tie.Need-index-at-requires Inv-loop μ-loop
+index-at-requires c κs = search needs
 
 loop-holds : tie.Need-loop-holds Inv-loop μ-loop
 loop-holds c =
     let a = c .before .before .before .before .before .before .before .args in
     let b = c .before .bucket-of in
-    rw (c .link-at .ensures) (name-start (a .source .now) (a .name .now) (a .ops .now) (b .result) (b .ensures .0) (a .heads .now) (a .nexts .now) (c .before .before .before .before .before .before .before .pre) (b .ensures .1))
+    rw (c .index-at .ensures) (name-start (a .source .now) (a .name .now) (a .ops .now) (b .result) (b .ensures .0) (a .heads .now) (a .nexts .now) (c .before .before .before .before .before .before .before .pre) (b .ensures .1))
 
 mul-row : tie.Need-mul-row Inv-loop μ-loop
 mul-row c = search needs
@@ -42,21 +42,21 @@ returns c =
     let l = c .before .before .before .before .loop in
     name-found (a .source .now) (a .name .now) (a .ops .now) (c .before .before .before .before .before .before .bucket-of .result) (l .k) (l .inv) (sym (c .before .has-name .ensures) ∙ c .if1 .taken)
 
-link-at-requires-2 : tie.Need-link-at-requires-2 Inv-loop μ-loop
-link-at-requires-2 c κs = search needs
+index-at-requires-2 : tie.Need-index-at-requires-2 Inv-loop μ-loop
+index-at-requires-2 c κs = search needs
 
 loop-less : tie.Need-loop-less Inv-loop μ-loop
 loop-less c =
     let a = c .before .before .before .before .before .before .before .before .before .before .before .before .before .args in
     let l = c .before .before .before .before .before .loop in
-    omega (arith, c .link-at2 .ensures, chain-rises (bucketAt (a .source .now) (a .ops .now)) 1024 256 (a .heads .now) (a .nexts .now) (c .before .before .before .before .before .before .before .before .before .before .before .before .before .pre) (l .k) (omega arith))
+    omega (arith, c .index-at2 .ensures, chain-rises (bucketAt (a .source .now) (a .ops .now)) 1024 256 (a .heads .now) (a .nexts .now) (c .before .before .before .before .before .before .before .before .before .before .before .before .before .pre) (l .k) (omega arith))
 
 loop-again : tie.Need-loop-again Inv-loop μ-loop
 loop-again c =
     let a = c .before .before .before .before .before .before .before .before .before .before .before .before .before .args in
     let b = c .before .before .before .before .before .before .before .bucket-of in
     let l = c .before .before .before .before .before .loop in
-    rw (c .link-at2 .ensures) (name-next (a .source .now) (a .name .now) (a .ops .now) (b .result) (b .ensures .0) (a .heads .now) (a .nexts .now) (c .before .before .before .before .before .before .before .before .before .before .before .before .before .pre) (b .ensures .1) (l .k) (l .inv) (omega arith) (sym (c .before .before .has-name .ensures) ∙ c .before .if1 .left))
+    rw (c .index-at2 .ensures) (name-next (a .source .now) (a .name .now) (a .ops .now) (b .result) (b .ensures .0) (a .heads .now) (a .nexts .now) (c .before .before .before .before .before .before .before .before .before .before .before .before .before .pre) (b .ensures .1) (l .k) (l .inv) (omega arith) (sym (c .before .before .has-name .ensures) ∙ c .before .if1 .left))
 
 returns-2 : tie.Need-returns-2 Inv-loop μ-loop
 returns-2 c =
@@ -71,13 +71,13 @@ find-indexed-spec =
     Inv-loop
     μ-loop
     bucket-of-requires
-    link-at-requires
+    index-at-requires
     loop-holds
     mul-row
     shared-slice-copy-out-row
     has-name-requires
     returns
-    link-at-requires-2
+    index-at-requires-2
     loop-less
     loop-again
     returns-2)

@@ -146,7 +146,8 @@ length-all (b ∷ s) e = rw length-append (omega (arith, kind-length (head-kind 
 abbrev pub lastOf : List ℕ → ℕ
 lastOf s = getD s (length s - 1) 0
 
-last-append : (s t : List ℕ) → 0 < length t → lastOf (s ++ t) ≡ lastOf t
+-- that of a text behind another
+pub last-append : (s t : List ℕ) → 0 < length t → lastOf (s ++ t) ≡ lastOf t
 last-append s t h =
     let e : length (s ++ t) - 1 ≡ length s + (length t - 1) = omega (arith, length-append s t) in
     rw e (getD-append-add s t (length t - 1) 0)

@@ -1,0 +1,4 @@
+pub mod LineEnds
+pub mod Trims
+pub mod Comments
+pub mod Splits

@@ -1,0 +1,60 @@
+-- Which bodies come back from their listing, over their records. Assumes nothing.
+use mathlib.Core.Bool.{Bool, true, false, not}
+use mathlib.Core.List.{List, [], _∷_}
+use Prim.Native.Nat.{ℕ}
+use lib.Dec.{eqb}
+use lib.ListN.{length, getD, drop}
+use Rattle.lists.specs.Choice.{pick, both}
+use Rattle.lists.specs.Scan.{same}
+use Rattle.lists.specs.Text.{text}
+use Rattle.lists.specs.Found.{Found}
+use Rattle.lists.specs.Found.Found.{found, missing}
+use Rattle.spec_sheet.specs.Types.{familyOf}
+use Rattle.spec_strings.specs.Table.{lookup}
+use Rattle.spec_strings.specs.Plain.{plain}
+use Rattle.spec_listing.specs.Edition.{Edition, Options, nameOf, hasText, textAt}
+use Rattle.spec_listing.specs.Operand.{targetOf}
+use Rattle.spec_listing.specs.Line.{offsetOf, opcodeOf, pairsOf}
+use Rattle.spec_listing.specs.Labels.{among}
+
+-- "default shows offsets, labels and texts"
+abbrev pub default : Options
+default = record { showOffsets = true; showLabels = true; resolveStrings = true }
+
+-- a search answers this id
+unfoldable pub answers : ℕ → Found → Bool
+answers id (found k) = eqb k id
+answers id missing = false
+
+-- a string id comes back: it has a text, the text is plain, and "Lookup gives the first id whose text is equal" gives the id
+unfoldable pub goodString : Edition → ℕ → Bool
+goodString e id = both (hasText e id) (both (plain (textAt e id)) (answers id (lookup (textAt e id) (e .bytes) (e .ends))))
+
+-- an operand of the instruction at `at` comes back: a string id as above, an Addr where "offset plus distance is an instruction's
+-- start or the body's length", which are the places; any other does
+unfoldable pub goodOperand : Edition → List ℕ → ℕ → ℕ → ℕ → Bool
+goodOperand e places at code bits =
+    pick (eqb (familyOf code) 3) (goodString e bits) (pick (eqb (familyOf code) 4) (among (targetOf at code bits) places) true)
+
+unfoldable pub goodOperands : Edition → List ℕ → ℕ → List ℕ → List ℕ → Bool
+goodOperands e places at [] pairs = true
+goodOperands e places at (code ∷ codes) pairs =
+    both (goodOperand e places at code (getD pairs 1 0)) (goodOperands e places at codes (drop 2 pairs))
+
+-- an instruction comes back: it is not "<invalid>", and its operands do
+unfoldable pub goodRecord : Edition → List ℕ → List ℕ → Bool
+goodRecord e places r =
+    both (not (same (nameOf e (opcodeOf r)) (text "<invalid>"))) (goodOperands e places (offsetOf r) (getD (e .types) (opcodeOf r) []) (pairsOf r))
+
+unfoldable pub goodRecords : Edition → List ℕ → List (List ℕ) → Bool
+goodRecords e places [] = true
+goodRecords e places (r ∷ rs) = both (goodRecord e places r) (goodRecords e places rs)
+
+-- the starts of the instructions, and the body's length
+unfoldable pub placesOf : List (List ℕ) → ℕ → List ℕ
+placesOf [] end = end ∷ []
+placesOf (r ∷ rs) end = offsetOf r ∷ placesOf rs end
+
+-- a body with these records comes back
+unfoldable pub comesBack : Edition → List ℕ → List (List ℕ) → Bool
+comesBack e body rs = goodRecords e (placesOf rs (length body)) rs

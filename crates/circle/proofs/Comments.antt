@@ -44,12 +44,18 @@ pub none-kept : Kept []
 unfolding outside
 none-kept before = refl
 
--- quiet bytes in front of such a text
+-- quiet bytes, in front of such a text and alone
 pub quiet-kept : (s t : List ℕ) → all quiet s ≡ true → Kept t → Kept (s ++ t)
 unfolding all
 quiet-kept [] t e k before = k before
 quiet-kept (b ∷ s) t e k before =
     outside-byte before b (s ++ t) (both-left (quiet b) (all quiet s) e) ∙ ap suc (quiet-kept s t (both-right (quiet b) (all quiet s) e) k b)
+
+pub quiet-whole : (s : List ℕ) → all quiet s ≡ true → Kept s
+unfolding all
+quiet-whole [] e before = none-kept before
+quiet-whole (b ∷ s) e before =
+    outside-byte before b s (both-left (quiet b) (all quiet s) e) ∙ ap suc (quiet-whole s (both-right (quiet b) (all quiet s) e) b)
 
 -- inside of quotes, up to the closing one
 no-quote : (b : ℕ) → printed b ≡ true → eqb b 34 ≡ false

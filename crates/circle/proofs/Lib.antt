@@ -2,3 +2,4 @@ pub mod LineEnds
 pub mod Trims
 pub mod Comments
 pub mod Splits
+pub mod Statements

@@ -3,3 +3,5 @@ pub mod Trims
 pub mod Comments
 pub mod Splits
 pub mod Statements
+pub mod PremiseLaws
+pub mod Values

@@ -30,8 +30,8 @@ use Rattle.spec_body.proofs.EncodeLaws.{OneEncoded, Encoding, pairs-use
 use Rattle.spec_body.proofs.EncodeLaws.Encoding.{no-record}
 use Rattle.spec_body.proofs.RowLaws.{GoodRow, GoodRows, good-length, good-widths, good-count}
 
--- parts: one behind the other, and their bytes
-part-add : (s : List ℕ) (p n m : ℕ) → part s p (n + m) ≡ part s p n ++ part s (p + n) m
+-- two parts, one behind the other
+pub part-add : (s : List ℕ) (p n m : ℕ) → part s p (n + m) ≡ part s p n ++ part s (p + n) m
 part-add s p n m = take-add n m (drop p s) ∙ rw (drop-drop n p s)
 
 bytes-take : (s : List ℕ) (n : ℕ) → Bytes s → Bytes (take n s)
@@ -40,7 +40,8 @@ bytes-take [] (suc n) h i = h i
 bytes-take (b ∷ s) (suc n) h zero = h 0
 bytes-take (b ∷ s) (suc n) h (suc i) = bytes-take s n (λ j. h (suc j)) i
 
-part-back : (s : List ℕ) (p n : ℕ) → Bytes s → p + n ≤ length s → leBytes n (le (part s p n)) ≡ part s p n
+-- the bytes of a part's number are the part
+pub part-back : (s : List ℕ) (p n : ℕ) → Bytes s → p + n ≤ length s → leBytes n (le (part s p n)) ≡ part s p n
 part-back s p n h l = ap (λ (k : ℕ). leBytes k (le (part s p n))) (sym (part-length s p n l)) ∙ leBytes-le (part s p n) (bytes-take (drop p s) n (bytes-drop s p h))
 
 pub part-below : (s : List ℕ) (p n : ℕ) → Bytes s → le (part s p n) < 256 ^ n

@@ -40,7 +40,7 @@ extend-byte b h =
     by-leb 128 b (λ l. rw (extend-large b l h) (omega arith)) (λ l. rw (extend-small b l) (omega arith))
 
 -- the addresses are Addr8 and Addr32
-by-address : (P : ℕ → Type 0) (code : ℕ) → familyOf code ≡ 4 → P 9 → P 10 → P code
+pub by-address : (P : ℕ → Type 0) (code : ℕ) → familyOf code ≡ 4 → P 9 → P 10 → P code
 by-address P code f nine ten =
     let r = family-address code f in
     by-eqb code 9 (λ e. rw e nine) (λ n. let e : code ≡ 10 = omega (arith, r .0, r .1, n) in rw e ten)

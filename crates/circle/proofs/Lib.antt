@@ -5,3 +5,4 @@ pub mod Splits
 pub mod Statements
 pub mod PremiseLaws
 pub mod Values
+pub mod Instructions

@@ -86,7 +86,7 @@ pub record Reads (e : Edition) (labels : List ℕ → Found) (at code : ℕ) (t 
   pub value-is : tokenValue (e .bytes) (e .ends) labels at code t ≡ value bits
   pub bytes-are : leBytes (widthOf code) bits ≡ bs
 
--- a listed operand of the instruction at `at`, where no place is 2 ^ 31 or more
+-- a listed operand of the instruction at `at`, where no place is past the largest body
 module _ (e : Edition) (labels : List ℕ → Found) (places : List ℕ) (at code bits : ℕ) (near : at < 2 ^ 31) (low : all (λ x. leb x 65536) places ≡ true) (c-least : 0 < code) (c-most : code ≤ 12) (fits : bits < 256 ^ widthOf code) (good : goodOperand e places at code bits ≡ true) where
   abbrev listed : List ℕ
   listed = operandText true (e .bytes) (e .ends) at code bits

@@ -6,3 +6,4 @@ pub mod Statements
 pub mod PremiseLaws
 pub mod Values
 pub mod Instructions
+pub mod ListedLines

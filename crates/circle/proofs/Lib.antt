@@ -7,3 +7,4 @@ pub mod PremiseLaws
 pub mod Values
 pub mod Instructions
 pub mod ListedLines
+pub mod Codes

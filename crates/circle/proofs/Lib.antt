@@ -8,3 +8,4 @@ pub mod Values
 pub mod Instructions
 pub mod ListedLines
 pub mod Codes
+pub mod Circle

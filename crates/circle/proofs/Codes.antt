@@ -46,11 +46,11 @@ use Rattle.circle.proofs.Instructions.{every-piece, operands-back}
 use Rattle.circle.proofs.ListedLines.{lineOf, labelledLines, listedLines, line-shape}
 
 -- the code of an instruction
-abbrev codeOf : ℕ → Label → List ℕ → List (List ℕ) → Code
+abbrev pub codeOf : ℕ → Label → List ℕ → List (List ℕ) → Code
 codeOf n waiting name ps = record { line = n; label = waiting; name = name; operands = ps }
 
 -- a label's line hands its label on
-codes-label : (e : Edition) (n : ℕ) (waiting : Label) (at : ℕ) (ls : List (List ℕ)) → codesFrom e n waiting (labelHead at ∷ ls) ≡ codesFrom e (suc n) (called (76 ∷ decimal at)) ls
+pub codes-label : (e : Edition) (n : ℕ) (waiting : Label) (at : ℕ) (ls : List (List ℕ)) → codesFrom e n waiting (labelHead at ∷ ls) ≡ codesFrom e (suc n) (called (76 ∷ decimal at)) ls
 unfolding codesFrom onStatement
 codes-label e n waiting at ls = rw (label-statement e at)
 
@@ -123,7 +123,7 @@ module _ (sheetText : List ℕ) (sh : Sheet) (c : ℕ) (read : sheetAt sheetText
       are-pieces = every-piece edition places low s b at (omega arith) row good-row good-operands
 
       -- its line is its code
-      its-code : (n : ℕ) (waiting : Label) (ls : List (List ℕ)) → codesFrom edition n waiting (lineOf edition its ∷ ls) ≡ codeOf n waiting name pieces ∷ codesFrom edition (suc n) none ls
+      pub its-code : (n : ℕ) (waiting : Label) (ls : List (List ℕ)) → codesFrom edition n waiting (lineOf edition its ∷ ls) ≡ codeOf n waiting name pieces ∷ codesFrom edition (suc n) none ls
       its-code n waiting ls =
           ap (λ (l : List ℕ). codesFrom edition n waiting (l ∷ ls)) (line-shape edition its)
           ∙ codes-line edition n waiting at (omega arith) (offset-missed at) name (sheet-name-text sheetText 0 sh c read bytes ends (getD s at 0) has-name) pieces are-pieces ls

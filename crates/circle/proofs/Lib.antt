@@ -7,5 +7,7 @@ pub mod PremiseLaws
 pub mod Values
 pub mod Instructions
 pub mod ListedLines
+pub mod Counts
 pub mod Codes
+pub mod Entries
 pub mod Circle

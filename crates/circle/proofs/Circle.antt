@@ -37,16 +37,18 @@ use Rattle.circle.specs.Premises.{default, placesOf, comesBack}
 use Rattle.circle.proofs.PremiseLaws.{places-most}
 use Rattle.circle.proofs.ListedLines.{listedLines, listing-lines, lines-good}
 use Rattle.circle.proofs.Codes.{Back, codes-back}
+use Rattle.circle.proofs.Entries.{labelled-most, entries-labelled}
 
 -- what an accepted listing is
-record Accepted (f : Found) (u t : List ℕ) : Type 0 where
+record Accepted (f : Found) (u t : List ℕ) (k n : ℕ) : Type 0 where
   short : f ≡ missing
   is-text : u ≡ t
+  are-entries : k ≡ n
 
-accepted : (f : Found) (u t : List ℕ) (k n : ℕ) → unlessLong f (listed u k) ≡ listed t n → Accepted f u t
+accepted : (f : Found) (u t : List ℕ) (k n : ℕ) → unlessLong f (listed u k) ≡ listed t n → Accepted f u t k n
 unfolding unlessLong
 accepted (found at) u t k n e = absurd (let z : _≡_ {A = ℕ} 0 1 = cc e in omega arith)
-accepted missing u t k n e = record { short = refl; is-text = cc e }
+accepted missing u t k n e = record { short = refl; is-text = cc e; are-entries = cc e }
 
 -- codes that come back are assembled to the whole body
 codes-assembled : (e : Edition) (s : List ℕ) (cs : List Code) → Back e s 0 cs → assembleCodes e cs ≡ assembled s
@@ -85,7 +87,7 @@ module _ (sheetText : List ℕ) (sh : Sheet) (c : ℕ) (read : sheetOf sheetText
         codes-back sheetText sh c (whole-sheet sheetText sh c read) bytes ends body b short (largest (sh .opcodes)) (g .small) (g .rows) (placesOf rs (length body)) low (labelOffsets edition rs) stands good 1 none
 
     module _ (t : List ℕ) (n : ℕ) (ok : listDecoded default edition [] (decoded rs) ≡ listed t n) where
-      is-accepted : Accepted (longLine default edition [] rs) (listing.linesOf default edition (labelOffsets edition rs) [] rs) t
+      is-accepted : Accepted (longLine default edition [] rs) (listing.linesOf default edition (labelOffsets edition rs) [] rs) t (listing.entriesFor default edition rs) n
       unfolding listDecoded
       is-accepted = accepted _ _ t _ n ok
 
@@ -99,6 +101,15 @@ module _ (sheetText : List ℕ) (sh : Sheet) (c : ℕ) (read : sheetOf sheetText
           rw its-lines
           (lines-good edition names (labelOffsets edition rs) (assembleCodes edition (codesFrom edition 1 none lines)) rs (is-accepted .short) 1
           ∙ codes-assembled edition body (codesFrom edition 1 none lines) back)
+
+      -- it needs no more label entries than the listing did
+      pub entries-most : entriesFor edition t ≤ n
+      unfolding comesBack listing.entriesFor
+      entries-most =
+          let g = good-sheet sheetText sh c read in
+          let places = placesOf rs (length body) in
+          let count = entries-labelled sheetText sh c (whole-sheet sheetText sh c read) bytes ends body b short (largest (sh .opcodes)) (g .small) (g .rows) places low (labelOffsets edition rs) stands good 1 0 in
+          rw its-lines (omega (arith, count, labelled-most (typeRows (sh .opcodes)) (largest (sh .opcodes)) body (labelOffsets edition rs) stands, is-accepted .are-entries))
 
       -- the operation gives the body
       pub circle : tooLarge bytes ends ≡ false → fault bytes ends ≡ missing → length t ≤ textLimit → (lent : ℕ) → entriesFor edition t ≤ lent

@@ -22,7 +22,7 @@ unfolding passing different
 passing-all [] = refl
 passing-all (y ∷ ys) = rw (passing-all ys)
 
--- of one list with a number in front, by a test and what the test is
+-- a number in front: one that does not pass, one that stands behind too, a new one
 module _ (p : ℕ → Bool) (y : ℕ) (ys : List ℕ) where
   passing-out : p y ≡ false → passing p (y ∷ ys) ≡ passing p ys
   unfolding passing
@@ -42,6 +42,7 @@ module _ (p : ℕ → Bool) (y : ℕ) (ys : List ℕ) where
       (λ e. by-test (p y) (λ h. omega (arith, passing-new h e)) (λ h. omega (arith, passing-out h)))
 
 module _ (p q : ℕ → Bool) (wider : (y : ℕ) → p y ≡ true → q y ≡ true) where
+  -- a wider test counts as many or more
   pub passing-most : (ys : List ℕ) → passing p ys ≤ passing q ys
   unfolding passing
   passing-most [] = omega arith
@@ -52,10 +53,10 @@ module _ (p q : ℕ → Bool) (wider : (y : ℕ) → p y ≡ true → q y ≡ tr
       (λ h. omega (arith, passing-out p y ys h, passing-grows q y ys, passing-most ys)))
 
   -- a number that only the wider test passes counts one more
-  module _ (x : ℕ) (out : p x ≡ false) («in» : q x ≡ true) where
+  module _ (x : ℕ) (out : p x ≡ false) (within-wider : q x ≡ true) where
     here-more : (y : ℕ) (ys : List ℕ) → x ≡ y → among y ys ≡ false → passing p (y ∷ ys) < passing q (y ∷ ys)
     here-more y ys z e =
-        omega (arith, passing-out p y ys (ap p (sym z) ∙ out), passing-new q y ys (ap q (sym z) ∙ «in») e, passing-most ys)
+        omega (arith, passing-out p y ys (ap p (sym z) ∙ out), passing-new q y ys (ap q (sym z) ∙ within-wider) e, passing-most ys)
 
     pub passing-more : (ys : List ℕ) → among x ys ≡ true → passing p ys < passing q ys
     unfolding among

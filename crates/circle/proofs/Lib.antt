@@ -11,3 +11,5 @@ pub mod Counts
 pub mod Codes
 pub mod Entries
 pub mod Circle
+pub mod ListAssemble
+pub mod CircleTrials

@@ -99,6 +99,7 @@ unfolding all placesOf
 places-most types last s (ended h) = rw (le-leb (length s) (length s) (omega arith))
 places-most types last s {at} (more h l k d) = both-yes (leb at (length s)) _ (le-leb at (length s) (omega arith)) (places-most types last s d)
 
+-- what holds of all places holds of one among them
 pub among-all : (p : ℕ → Bool) (x : ℕ) (ys : List ℕ) → among x ys ≡ true → all p ys ≡ true → p x ≡ true
 unfolding among all
 among-all p x [] e f = true-not-false false e refl

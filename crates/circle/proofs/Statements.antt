@@ -94,6 +94,7 @@ module _ (e : Edition) (at : ℕ) where
   unfolding isLabel
   label-is = rw (label-last, label-front) (decimal-all at)
 
+  -- it is that label
   pub label-statement : statementOf e (labelHead at) ≡ labelled (76 ∷ decimal at)
   unfolding statementIn
   label-statement =
@@ -128,15 +129,16 @@ hexByte b = either (within 48 57 b) (within 97 102 b)
 -- a line of an instruction: an offset that is no name, two spaces, a name and pieces
 module _ (e : Edition) (at : ℕ) (small : at < 65536) (missed : opcodeOf e (hexLower4 at) ≡ missing) (name : List ℕ) (n : NameText name) (ps : List (List ℕ)) (hs : Every Piece ps) where
   -- what stands behind the offset
-  abbrev pub shown : List ℕ
+  abbrev shown : List ℕ
   shown = name ++ behindName ps
 
-  abbrev pub line : List ℕ
+  abbrev line : List ℕ
   line = hexLower4 at ++ 32 ∷ 32 ∷ shown
 
   is-token : Token name
   is-token = name-token name (named n)
 
+  -- no comment stands in it
   shown-kept : Kept shown
   shown-kept = quiet-kept name (behindName ps) (all-weaken tokenByte quiet token-quiet name (is-token .bytes)) (operands-kept ps hs)
 
@@ -165,6 +167,7 @@ module _ (e : Edition) (at : ℕ) (small : at < 65536) (missed : opcodeOf e (hex
   line-length : 4 < length line
   line-length = omega (arith, length-append (hexLower4 at) (32 ∷ 32 ∷ shown), hexLower4-length at small)
 
+  -- it is no banner and no label
   line-skipped : isSkipped line ≡ false
   line-skipped = not-skipped line (omega (arith, line-length)) (not-hex 0 59 (omega arith) refl) (not-hex 0 70 (omega arith) refl) (not-hex 1 117 (omega arith) refl)
 
@@ -172,6 +175,7 @@ module _ (e : Edition) (at : ℕ) (small : at < 65536) (missed : opcodeOf e (hex
   unfolding isLabel
   line-label = rw (ne-eqb (getD line 0 0) 76 (not-hex 0 76 (omega arith) refl))
 
+  -- its digits are the offset
   line-mark : hasHexMark line ≡ false
   unfolding hasHexMark bytes.text
   line-mark = rw (opens-differs (bytes.text "0x") line 1 (omega arith) (not-hex 1 120 (omega arith) refl), opens-differs (bytes.text "0X") line 1 (omega arith) (not-hex 1 88 (omega arith) refl))
@@ -217,6 +221,7 @@ module _ (e : Edition) (at : ℕ) (small : at < 65536) (missed : opcodeOf e (hex
   line-last =
       ap isWhite (last-append (hexLower4 at) (32 ∷ 32 ∷ shown) (omega arith) ∙ last-append (32 ∷ 32 ∷ []) shown shown-some) ∙ last-shown name is-token ps hs
 
+  -- it is that instruction
   pub line-statement : statementOf e line ≡ instruction shown
   unfolding statementIn
   line-statement =

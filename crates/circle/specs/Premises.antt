@@ -6,16 +6,21 @@ use lib.Dec.{eqb}
 use lib.ListN.{length, getD, drop}
 use Rattle.lists.specs.Choice.{pick, both}
 use Rattle.lists.specs.Scan.{same}
-use Rattle.lists.specs.Text.{text}
+use Rattle.lists.specs.Text as characters
 use Rattle.lists.specs.Found.{Found}
 use Rattle.lists.specs.Found.Found.{found, missing}
 use Rattle.spec_sheet.specs.Types.{familyOf}
+use Rattle.spec_sheet.specs.Sheet.{SheetRead, sheetOf, typeRows, largest}
+use Rattle.spec_sheet.specs.Sheet.SheetRead.{sheet, malformed}
 use Rattle.spec_strings.specs.Table.{lookup}
 use Rattle.spec_strings.specs.Plain.{plain}
+use Rattle.spec_body.specs.Decode.{Decoded, decodeBody}
+use Rattle.spec_body.specs.Decode.Decoded.{decoded, beyond, cut}
 use Rattle.spec_listing.specs.Edition.{Edition, Options, nameOf, hasText, textAt}
 use Rattle.spec_listing.specs.Operand.{targetOf}
 use Rattle.spec_listing.specs.Line.{offsetOf, opcodeOf, pairsOf}
 use Rattle.spec_listing.specs.Labels.{among}
+use Rattle.spec_listing.specs.Operation.{editionOf}
 
 -- "default shows offsets, labels and texts"
 abbrev pub default : Options
@@ -44,7 +49,7 @@ goodOperands e places at (code ∷ codes) pairs =
 -- an instruction comes back: it is not "<invalid>", and its operands do
 unfoldable pub goodRecord : Edition → List ℕ → List ℕ → Bool
 goodRecord e places r =
-    both (not (same (nameOf e (opcodeOf r)) (text "<invalid>"))) (goodOperands e places (offsetOf r) (getD (e .types) (opcodeOf r) []) (pairsOf r))
+    both (not (same (nameOf e (opcodeOf r)) (characters.text "<invalid>"))) (goodOperands e places (offsetOf r) (getD (e .types) (opcodeOf r) []) (pairsOf r))
 
 unfoldable pub goodRecords : Edition → List ℕ → List (List ℕ) → Bool
 goodRecords e places [] = true
@@ -58,3 +63,17 @@ placesOf (r ∷ rs) end = offsetOf r ∷ placesOf rs end
 -- a body with these records comes back
 unfoldable pub comesBack : Edition → List ℕ → List (List ℕ) → Bool
 comesBack e body rs = goodRecords e (placesOf rs (length body)) rs
+
+-- the same of a body as it is given, under a sheet's text and a string table: one that is refused does not come back
+unfoldable pub decodedBack : Edition → List ℕ → Decoded → Bool
+decodedBack e body (decoded rs) = comesBack e body rs
+decodedBack e body (beyond at) = false
+decodedBack e body (cut at) = false
+
+unfoldable pub sheetBack : SheetRead → List ℕ → List ℕ → List ℕ → List ℕ → Bool
+sheetBack (sheet sh at) text bytes ends body =
+    decodedBack (editionOf text (sh .opcodes) bytes ends) body (decodeBody (typeRows (sh .opcodes)) (largest (sh .opcodes)) body)
+sheetBack (malformed line) text bytes ends body = false
+
+unfoldable pub bodyComesBack : List ℕ → List ℕ → List ℕ → List ℕ → Bool
+bodyComesBack text bytes ends body = sheetBack (sheetOf text) text bytes ends body

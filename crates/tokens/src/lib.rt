@@ -1,0 +1,2 @@
+// The value of an operand's token: numbers, strings by their index, and jumps by their distance.
+pub mod number;

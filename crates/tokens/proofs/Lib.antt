@@ -1,2 +1,3 @@
 pub mod TokenLaws
 pub mod BoundLaws
+pub mod AddressLaws

@@ -1,0 +1,22 @@
+use Rattle.tokens.specs.Values.{indexOr}
+use mathlib.Core.Path.{ap, sym}
+use borrow.Author.Needs.{needs}
+use Rattle.tokens.proofs.text.index_or.Statement.{statement}
+use Rattle.tokens.proofs.text.index_or.Tie as tie
+use Rattle.tokens.proofs.text.index_or.Reads as reads
+use Rattle.tokens.proofs.text.index_or.Lts as lts
+
+enum-known-found : tie.Need-enum-known-found
+enum-known-found c = search needs
+
+enum-told : tie.Need-enum-told
+enum-told c = search needs
+
+returns : tie.Need-returns
+returns c = sym (ap (indexOr (c .before .before .args .number)) (c .enum-told .given .1))
+
+returns-2 : tie.Need-returns-2
+returns-2 c = sym (ap (indexOr (c .before .before .before .args .number)) (c .before .found .given .1))
+
+pub index-or-spec : {M : Type 1} → statement M
+index-or-spec = tie.close (tie.spec enum-known-found enum-told returns returns-2)

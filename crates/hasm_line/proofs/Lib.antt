@@ -1,3 +1,4 @@
 pub mod PartLaws
 pub mod OffsetLaws
 pub mod ShapeLaws
+pub mod StatementLaws

@@ -2,7 +2,7 @@ use Rattle.slices.proofs.SearchLaws.{was-missing}
 use borrow.Author.Tests.{not-true, not-false}
 use native.Mathlib.Omega.{arith}
 use mathlib.Core.Path.{sym, _∙_}
-use Rattle.sheet.proofs.AnswerLaws.{name-found, name-missing}
+use Rattle.sheet_line.proofs.AnswerLaws.{name-found, name-missing}
 use Rattle.hasm_line.proofs.OffsetLaws.{no-digit, no-white, no-letter, a-name, an-offset}
 use borrow.Author.Needs.{needs}
 use Rattle.hasm_line.proofs.offset.behind_offset.Statement.{statement}

@@ -203,15 +203,25 @@ fn lookups() {
     }
 }
 
-pub fn run() {
+/// All tables, or those of one part: decoding, encoding, listing, lookup.
+pub fn run(part: &str) {
     let mut r = Random::new(3);
     let sheets = [(4, sheets::of_document()), (256, sheets::random(&mut r, 256, 256, 4))];
+    let wanted = |name: &str| part.is_empty() || part == name;
     println!("Medians of {ROUNDS} rounds, both sides turn by turn in one process. Lent buffers are not cleared between calls.");
-    table("Decoding, the Rust's format read before", &sheets, decoding);
-    table("Decoding, both reading their sheet in each call", &sheets, decoding_from_text);
-    table("Encoding, the Rust's format read before", &sheets, encoding);
-    table("Encoding, both reading their sheet in each call", &sheets, encoding_from_text);
-    listings(&sheets, 16);
-    listings(&sheets, 65536);
-    lookups();
+    if wanted("decoding") {
+        table("Decoding, the Rust's format read before", &sheets, decoding);
+        table("Decoding, both reading their sheet in each call", &sheets, decoding_from_text);
+    }
+    if wanted("encoding") {
+        table("Encoding, the Rust's format read before", &sheets, encoding);
+        table("Encoding, both reading their sheet in each call", &sheets, encoding_from_text);
+    }
+    if wanted("listing") {
+        listings(&sheets, 16);
+        listings(&sheets, 65536);
+    }
+    if wanted("lookup") {
+        lookups();
+    }
 }

@@ -5,6 +5,7 @@ mod bench;
 mod decode;
 mod desk;
 mod encode;
+mod jobs;
 mod listing;
 mod modules;
 mod numbers;
@@ -45,10 +46,11 @@ fn main() {
             let same = compare(number(1, 1), number(2, 1_000_000));
             std::process::exit(!same as i32);
         }
-        "bench" => bench::run(),
+        "bench" => bench::run(words.get(1).map_or("", |w| w.as_str())),
         "replay" => replay::write(words.get(1).expect("the file to write")),
+        "jobs" => jobs::write(words.get(1).expect("the file to write")),
         _ => {
-            eprintln!("compare [SEED [COUNT]] | bench | replay FILE");
+            eprintln!("compare [SEED [COUNT]] | bench [PART] | replay FILE | jobs FILE");
             std::process::exit(2);
         }
     }

@@ -3,6 +3,8 @@ use mathlib.Core.Path.{_≡_}
 use mathlib.Core.List.{List}
 use Prim.Native.Nat.{ℕ}
 use lib.ListN.{length}
+use Rattle.spec_sheet.specs.Scan.{Step}
+use Rattle.spec_sheet.specs.Scan.Step.{next, off}
 use Rattle.spec_sheet.specs.Sheet.{typeRows, infoRows, above}
 use Rattle.spec_job.specs.Job.{Edition, EditionRead, JobRead}
 use Rattle.spec_job.specs.Job.EditionRead.{edition, badEdition}
@@ -12,6 +14,8 @@ use Rattle.job_reader.specs.declared.reader.EditionAnswer.{EditionAnswer
 use Rattle.job_reader.specs.declared.reader.EditionAnswer.the-variants as editions
 use Rattle.job_reader.specs.declared.reader.BodyAnswer.{BodyAnswer}
 use Rattle.job_reader.specs.declared.reader.BodyAnswer.the-variants as bodies
+use Rattle.job_reader.specs.declared.reader.TextAnswer.{TextAnswer}
+use Rattle.job_reader.specs.declared.reader.TextAnswer.the-variants as texts
 
 -- what the lent arrays hold of an edition: both tables by opcode, its strings' bytes and their ends
 pub record Holds (e : Edition) (types infos : List (List ℕ)) (bytes ends : List ℕ) : Type 0 where
@@ -30,3 +34,8 @@ pub data EditionIn (x : EditionRead) (types infos : List (List ℕ)) (bytes ends
 pub data BodyIn (x : (List ℕ → JobRead) → JobRead) (out : List ℕ) (r : BodyAnswer) : Type 0 where
   whole : (bs : List ℕ) → ((then : List ℕ → JobRead) → x then ≡ then bs) → r ≡ bodies.Read (length bs) → Opens out bs → BodyIn x out r
   faulty : (line : ℕ) → ((then : List ℕ → JobRead) → x then ≡ badLine line) → r ≡ bodies.BadLine line → BodyIn x out r
+
+-- "`text=` instead of `body`, the text starting on the next line", by the reading of that line
+unfoldable pub textAnswer : Step → ℕ → TextAnswer
+textAnswer (next value at) line = texts.From at
+textAnswer off line = texts.BadLine line

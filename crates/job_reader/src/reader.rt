@@ -1,11 +1,12 @@
-// The parts of a job, numbered by its lines: which job it is, an edition, the body.
+// The parts of a job, numbered by its lines: which job it is, an edition, the body, the text.
 ghost use mathlib.Core.Path.{_≡_};
 ghost use Prim.Native.Nat.{_≤_};
 ghost use lib.ListN.{length};
 ghost use Rattle.lists.specs.Scan.{opens};
 ghost use Rattle.lists.specs.Text.{text};
+ghost use Rattle.spec_sheet.specs.Scan.{literalAt};
 ghost use Rattle.spec_job.specs.Job.{editionAt, withBody};
-ghost use Rattle.job_reader.specs.ReaderAnswers.{EditionIn, BodyIn};
+ghost use Rattle.job_reader.specs.ReaderAnswers.{EditionIn, BodyIn, textAnswer};
 use crate::hex::HexLine;
 use crate::table::TableAnswer;
 use sheet::opcode::Sheet;
@@ -81,4 +82,21 @@ pub fn body_at(s: &[u8], at: usize, line: usize, out: &mut [u8]) -> BodyAnswer
         return BodyAnswer::Read(n);
     }
     BodyAnswer::BadLine(line + 1)
+}
+
+// Where a text starts; or the malformed line, numbered in the job.
+pub enum TextAnswer {
+    From(usize),
+    BadLine(usize),
+}
+
+// The text whose line `text=` stands at `at`, on the job's line `line`: it starts on the next line.
+pub fn text_at(s: &[u8], at: usize, line: usize) -> TextAnswer
+    ensures { λ r. ⌜ r ≡ textAnswer (literalAt (text "text=\n") (now (s .entry)) at) line ⌝ }
+{
+    let l = sheet_line::scan::literal_at(s, at, b"text=\n");
+    match l {
+        Step::Next(_, b) => TextAnswer::From(b),
+        Step::Off => TextAnswer::BadLine(line),
+    }
 }

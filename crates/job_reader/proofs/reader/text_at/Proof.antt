@@ -8,17 +8,23 @@ use Rattle.job_reader.proofs.reader.text_at.Tie as tie
 use Rattle.job_reader.proofs.reader.text_at.Reads as reads
 use Rattle.job_reader.proofs.reader.text_at.Lts as lts
 use Rattle.sheet_line.proofs.scan.literal_at.Reads as literal-at-reads
+
 slice-aggregate-literal-at : tie.Need-slice-aggregate-literal-at
 slice-aggregate-literal-at c = search needs
+
 literal-at-requires : tie.Need-literal-at-requires
 literal-at-requires c κs = search needs
+
 enum-known-l : tie.Need-enum-known-l
 enum-known-l c = search needs
+
 enum-told : tie.Need-enum-told
 enum-told c = search needs
+
 returns : tie.Need-returns
 unfolding text textAnswer
 returns c = rw (was-next _ (sym (c .before .before .before .literal-at .ensures) ∙ c .before .l .given .1)) refl
+
 returns-2 : tie.Need-returns-2
 unfolding text textAnswer
 returns-2 c = rw (was-off _ (sym (c .before .before .literal-at .ensures) ∙ c .enum-told .given .1)) refl

@@ -5,21 +5,40 @@ use mathlib.Core.List.{List, [], _∷_}
 use Prim.Native.Nat.{ℕ}
 use Rattle.lists.specs.Scan.{run, all, same, opens}
 use Rattle.lists.specs.Text.{text}
-use Rattle.spec_numbers.specs.LittleEndian.{le}
+use Rattle.spec_numbers.specs.LittleEndian.{le, leBytes}
 use Rattle.spec_numbers.specs.TwosComplement.{extend8}
-use Rattle.spec_numbers.specs.Parse.{digitValue, digitsValue, unsignedValue}
+use Rattle.spec_numbers.specs.Parse.{digitValue, digitsValue, unsignedValue, parseU32In, minus, negated, parseI32}
 use Rattle.spec_sheet.specs.Types.{typeNames, typeCodeIn, typeCode, widthOf, familyOf, kindOf}
 use Rattle.spec_sheet.specs.Scan.{after, literalAt, isNameByte, numberRead, numberAt, keyedAt, mayBeName, nameAt, typeAt}
 use Rattle.spec_sheet.specs.Line.{withType, typesFrom, typesAt, headAt, lineTypes, lineHead, lineAt, typeRow, infoRow}
 use Rattle.spec_sheet.specs.Sheet.{fill, hasName, findName, isMissing, mayFollow, accepted, onLine, opsFrom, sheetOps, sheetAt, endsAt, sheetOf, above}
-use Rattle.spec_strings.specs.Table.{lookupFrom}
+use Rattle.spec_strings.specs.Table.{lookupFrom, tooLarge, wellFormed, faultFrom}
 use Rattle.spec_strings.specs.Plain.{plainByte, plain}
 use Rattle.spec_body.specs.Record.{sumBy, pairs}
 use Rattle.spec_body.specs.Decode.{prepend, decodeFrom}
-use Rattle.spec_listing.specs.Edition.{nameOf}
-use Rattle.spec_listing.specs.Operand.{distanceOf, targetOf}
-use Rattle.spec_listing.specs.Labels.{among}
-use Rattle.circle.specs.Premises.{answers, goodString, goodOperand, goodOperands, goodRecord, goodRecords, placesOf, comesBack, decodedBack, sheetBack, bodyComesBack}
+use Rattle.spec_listing.specs.Edition.{nameOf, isJump}
+use Rattle.spec_listing.specs.Operand.{distanceOf, targetOf, stringText, operandText, operandTexts}
+use Rattle.spec_listing.specs.Labels.{among, endsFlow, targets, labelsOf, labelOffsets, different}
+use Rattle.circle.specs.Premises.{default, answers, goodString, goodOperand, goodOperands, goodRecord, goodRecords, placesOf, comesBack, decodedBack, sheetBack, bodyComesBack}
+use Rattle.spec_numbers.specs.Double.{bitsOfWhole, withSign, wholeDigits, readWhole, readHex16, readDouble, infinityText, hexMark}
+use Rattle.spec_strings.specs.Utf8.{afterLead, afterNext, step, utf8From, leadBits, bitsAfter, charsFrom}
+use Rattle.spec_strings.specs.Escape.{meant, unescape, unicode, escape, escapeAll, escapeText, quoted}
+use Rattle.spec_body.specs.Operation.{Outcome}
+use Rattle.spec_body.specs.Operation.Outcome.{result, refusedWith}
+use Rattle.spec_listing.specs.Operation.{unlessFault, underTable, underEdition, underInputs, listOutcome, list, listModule}
+use Rattle.spec_hasm.specs.Text.{onto, linesOf, isWhite, solidLength, trim}
+use Rattle.spec_hasm.specs.Comment.{isQuote, isComment, outside, inside}
+use Rattle.spec_hasm.specs.Split.{splitOutside, splitInside, tokensFrom, tokens, nameIn, operandsIn}
+use Rattle.spec_hasm.specs.Line.{isSkipped, isLabel, hasHexMark, behindHexMark, isOffset, behindOffset, statementIn}
+use Rattle.spec_hasm.specs.Token.{numberOr, foundOr, registerValue, isQuoted, stringValue, offsetOr, targetIn, isNear, distanceTo, tokenValue}
+use Rattle.spec_hasm.specs.Assemble.{isTextByte, unlessBadLine, onStatement, codesFrom, onName, unlessBadName, foundIn, holding, labelsFrom, unlessFound, labelOffset, prepend as prependText, onValue, operandsFrom, behind, onOperands, bytesFrom, assembleCodes, assembleText}
+use Rattle.spec_hasm.specs.Operation.{assembleOutcome, assemble}
+use Rattle.spec_numbers.specs.Print.{digit, digits, padded, decimal, signedDecimal, hexLower, hexLower4, hexUpper, hexUpper4}
+use Rattle.spec_body.specs.Function.{inArea}
+use Rattle.spec_listing.specs.Line.{offsetText, instructionText}
+use Rattle.spec_listing.specs.Listing.{labelLine, labelText, instructionLine, linesOf as linesOfListed, longLine, entriesFor, unlessLong, listDecoded, append}
+use Rattle.spec_listing.specs.Module.{functionName, banner, listFunctionIn, listFunctionsFrom}
+use Rattle.spec_hasm.specs.Token as token
 
 -- the sheet of document 01's job
 unfoldable sheet : List ℕ
@@ -78,3 +97,43 @@ to-inside = refl
 to-front : comes bytes ends (1 ∷ 255 ∷ []) ≡ false
 unfolding comes bytes ends
 to-front = refl
+
+-- what a body's default listing is assembled to: the bytes behind a 0, or number, line and operand of a refusal behind a 1
+textOf : Outcome → List ℕ
+textOf (result t n) = t
+textOf (refusedWith number place operand) = []
+
+shown : Outcome → List ℕ
+shown (result t n) = 0 ∷ t
+shown (refusedWith number line operand) = 1 ∷ number ∷ line ∷ operand ∷ []
+
+unfoldable again : List ℕ → List ℕ → List ℕ → List ℕ
+unfolding textOf shown sheet bytes ends run all same opens text leBytes digitValue digitsValue unsignedValue parseU32In minus negated parseI32 bitsOfWhole withSign wholeDigits readWhole readHex16 readDouble infinityText hexMark typeNames typeCodeIn typeCode widthOf familyOf kindOf after literalAt isNameByte numberRead numberAt keyedAt mayBeName nameAt typeAt withType typesFrom typesAt headAt lineTypes lineHead lineAt typeRow infoRow fill hasName findName isMissing mayFollow accepted onLine opsFrom sheetOps sheetAt endsAt sheetOf above afterLead afterNext step utf8From tooLarge wellFormed faultFrom lookupFrom meant unescape sumBy unlessFault underTable underEdition underInputs onto linesOf isWhite solidLength trim isQuote isComment outside inside splitOutside splitInside tokensFrom tokens nameIn operandsIn isSkipped isLabel hasHexMark behindHexMark isOffset behindOffset statementIn numberOr foundOr registerValue token.unsignedValue isQuoted stringValue offsetOr targetIn isNear distanceTo tokenValue isTextByte unlessBadLine onStatement codesFrom onName unlessBadName foundIn holding labelsFrom unlessFound labelOffset prependText onValue operandsFrom behind onOperands bytesFrom assembleCodes assembleText assembleOutcome assemble list listModule hexUpper hexUpper4 listOutcome leadBits bitsAfter charsFrom unicode escape escapeAll escapeText quoted decodeFrom prepend pairs le extend8 digit digits padded decimal signedDecimal hexLower hexLower4 inArea nameOf isJump distanceOf targetOf stringText operandText operandTexts offsetText instructionText endsFlow targets labelsOf labelOffsets among different labelLine labelText instructionLine linesOfListed longLine entriesFor unlessLong listDecoded append functionName banner listFunctionIn listFunctionsFrom
+again bytes ends body = shown (assemble sheet bytes ends (textOf (list default sheet bytes ends body 4)) 4)
+
+-- without its premise a body does not come back: no sheet has the name "<invalid>"; `\u00E9` is another text; the text's first id
+-- is another; `L-1` is no address
+gap-again : again bytes ends (3 ∷ []) ≡ 1 ∷ 4 ∷ 1 ∷ 0 ∷ []
+unfolding again bytes ends
+gap-again = refl
+
+not-plain-again : again bytes ends (2 ∷ 1 ∷ 1 ∷ 0 ∷ []) ≡ 1 ∷ 10 ∷ 1 ∷ 2 ∷ []
+unfolding again bytes ends
+not-plain-again = refl
+
+not-first-again : again (97 ∷ 97 ∷ []) (1 ∷ 2 ∷ []) (2 ∷ 1 ∷ 1 ∷ 0 ∷ []) ≡ 0 ∷ 2 ∷ 1 ∷ 0 ∷ 0 ∷ []
+unfolding again
+not-first-again = refl
+
+to-front-again : again bytes ends (1 ∷ 255 ∷ []) ≡ 1 ∷ 7 ∷ 1 ∷ 1 ∷ []
+unfolding again bytes ends
+to-front-again = refl
+
+-- a number in place of a text, and an offset inside of an instruction, are read back all the same
+no-text-again : again bytes ends (2 ∷ 1 ∷ 2 ∷ 0 ∷ []) ≡ 0 ∷ 2 ∷ 1 ∷ 2 ∷ 0 ∷ []
+unfolding again bytes ends
+no-text-again = refl
+
+to-inside-again : again bytes ends (1 ∷ 1 ∷ []) ≡ 0 ∷ 1 ∷ 1 ∷ []
+unfolding again bytes ends
+to-inside-again = refl

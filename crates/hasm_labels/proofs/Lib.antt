@@ -1,1 +1,2 @@
 pub mod CodeSteps
+pub mod LabelLaws

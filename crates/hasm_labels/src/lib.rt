@@ -1,1 +1,3 @@
 // The names and the labels of an assembler's text.
+pub mod find;
+pub mod slot;

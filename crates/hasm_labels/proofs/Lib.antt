@@ -1,2 +1,3 @@
 pub mod CodeSteps
 pub mod LabelLaws
+pub mod NameLaws

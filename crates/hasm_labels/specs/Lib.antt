@@ -1,1 +1,2 @@
+pub mod NameReads
 pub mod Slots

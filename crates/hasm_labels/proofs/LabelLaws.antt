@@ -1,11 +1,11 @@
 -- Laws of the labels held and of the search through them. Assumes nothing.
 use mathlib.Core.Path.{_≡_, refl, ap, _∙_}
 use mathlib.Core.Bool.{Bool, true, false}
-use Prim.Native.Nat.{ℕ, zero, suc, _+_, _-_, _≤_, _<_}
+use Prim.Native.Nat.{ℕ, suc, _+_, _-_, _≤_, _<_}
 use native.Mathlib.Omega.{arith}
 use mathlib.Core.List.{List, [], _∷_, _++_}
 use lib.ListN.{length, take, getD}
-use lib.Seq.{take-length}
+use lib.Seq.{take-length, take-suc}
 use Rattle.lists.specs.Choice.{pick}
 use Rattle.lists.specs.Scan.{same, part}
 use Rattle.lists.specs.Found.Found.{found, missing}
@@ -34,12 +34,15 @@ module _ (text : List ℕ) where
   unfolding labelsIn
   labels-none slots = refl
 
+  -- a slot more, behind the others
+  pub labels-more : (slots : List (List ℕ)) (s : List ℕ) → labelsIn text (slots ++ (s ∷ [])) ≡ labelsIn text slots ++ (labelIn text s ∷ [])
+  unfolding labelsIn
+  labels-more [] s = refl
+  labels-more (r ∷ slots) s = ap (λ (ls : List LabelAt). labelIn text r ∷ ls) (labels-more slots s)
+
   -- the first k + 1 slots
   pub labels-next : (slots : List (List ℕ)) (k : ℕ) → k < length slots → labelsIn text (take (suc k) slots) ≡ labelsIn text (take k slots) ++ (labelIn text (getD slots k []) ∷ [])
-  unfolding labelsIn
-  labels-next [] k h = absurd (omega arith)
-  labels-next (s ∷ slots) zero h = refl
-  labels-next (s ∷ slots) (suc k) h = ap (λ (ls : List LabelAt). labelIn text s ∷ ls) (labels-next slots k (omega arith))
+  labels-next slots k h = rw (take-suc slots k [] h) (labels-more (take k slots) (getD slots k []))
 
 -- the search through all slots is that through the first k
 pub record Seeking (text : List ℕ) (slots : List (List ℕ)) (t : List ℕ) (k : ℕ) : Type 0 where

@@ -1,3 +1,4 @@
 pub mod CodeSteps
+pub mod HoldLaws
 pub mod LabelLaws
 pub mod NameLaws

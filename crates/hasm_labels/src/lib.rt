@@ -1,4 +1,5 @@
 // The names and the labels of an assembler's text.
 pub mod find;
+pub mod hold;
 pub mod name;
 pub mod slot;

@@ -1,0 +1,52 @@
+// The value of an operand's token, by the family of its type.
+ghost use mathlib.Core.Path.{_≡_};
+ghost use mathlib.Core.List.{List};
+ghost use Prim.Native.Nat.{ℕ, _^_, _≤_, _<_};
+ghost use lib.ListN.{length};
+ghost use Rattle.lists.specs.Found as search;
+ghost use Rattle.spec_sheet.specs.Types.{familyOf};
+ghost use Rattle.spec_hasm.specs.Token.{foundOr, distanceTo, tokenValue};
+ghost use Rattle.slices.specs.Answers.{foundOf};
+ghost use Rattle.texts.specs.Keys.{TextsIndexed};
+ghost use Rattle.tokens.specs.Values.{valueOf};
+use slices::search::Found;
+use tokens::address::distance_to;
+use tokens::number::Value;
+use tokens::number::double_value;
+use tokens::number::register_value;
+use tokens::number::signed_value;
+use tokens::number::unsigned_value;
+use tokens::text::string_value;
+
+// The value of a token that is no jump's target.
+fn plain_value(
+    t: &[u8],
+    family: u8,
+    bytes: &[u8],
+    ends: &[u32],
+    text_heads: &[u32],
+    text_nexts: &[u32],
+    work: &mut [u8],
+) -> Value
+    requires { ⌜ TextsIndexed (now bytes) (now ends) (now «text_heads») (now «text_nexts») × (length (now t) ≤ length (now work)) ⌝ }
+    ensures { λ r. ⌜ ((labels : List ℕ → search.Found) (offset code : ℕ) → familyOf code ≡ family → (family ≡ 4 → ⊥) → r ≡ valueOf (tokenValue (now (bytes .entry)) (now (ends .entry)) labels offset code (now (t .entry)))) ⌝ }
+{
+    match family {
+        1 => register_value(t),
+        2 => unsigned_value(t),
+        3 => string_value(t, bytes, ends, text_heads, text_nexts, work),
+        5 => signed_value(t),
+        _ => double_value(t),
+    }
+}
+
+// The distance to a label that was found. A distance wraps at 32 bits, so of the label's offset those count.
+fn label_distance(width: usize, offset: usize, label: Found) -> Value
+    requires { ⌜ offset < 2 ^ 32 ⌝ }
+    ensures { λ r. ⌜ ((l : search.Found) → label ≡ foundOf l → r ≡ valueOf (distanceTo width offset (foundOr 7 l))) ⌝ }
+{
+    let Found::At(at) = label else {
+        return Value::Refused(7);
+    };
+    distance_to(width, offset as u64, (at % 0x1_0000_0000) as u64)
+}

@@ -10,7 +10,7 @@ use borrow.Author.Tests.{eq-eqb, ne-eqb}
 use Rattle.lists.specs.Found as search
 use Rattle.lists.specs.Scan.{part}
 use Rattle.lists.specs.Write.{Put, top}
-use Rattle.lists.proofs.Writes.{_then_, wrote-none, kept-length}
+use Rattle.lists.proofs.Writes.{_then_, same-piece, wrote-none, kept-length}
 use Rattle.spec_numbers.specs.LittleEndian.{leBytes}
 use Rattle.spec_sheet.specs.Types.{widthOf}
 use Rattle.spec_listing.specs.Edition.{Edition}
@@ -72,6 +72,7 @@ allIn e labels offset s row = operandsFrom e labels offset 1 row (tokens (splitO
 
 -- operands up to i are written, and the text of the next starts at p
 pub record Going (e : Edition) (labels : List ℕ → search.Found) (offset : ℕ) (s row out₀ : List ℕ) (k : ℕ) (out : List ℕ) (n p i : ℕ) : Type 0 where
+  pub eight : length row ≡ 8
   pub few : i ≤ 8
   pub place : p ≤ length s
   pub bytes : List ℕ
@@ -79,8 +80,9 @@ pub record Going (e : Edition) (labels : List ℕ → search.Found) (offset : �
   pub rest : allIn e labels offset s row ≡ prepend bytes (operandsFrom e labels offset (suc i) (drop i row) (tokens (splitOutside (drop p s))))
 
 module _ {e : Edition} {labels : List ℕ → search.Found} {offset : ℕ} {s row out₀ : List ℕ} {k : ℕ} where
-  pub start : length out₀ ≤ top → k ≤ top → Going e labels offset s row out₀ k out₀ k 0 0
-  start h l = record {
+  pub start : length row ≡ 8 → length out₀ ≤ top → k ≤ top → Going e labels offset s row out₀ k out₀ k 0 0
+  start q h l = record {
+    eight = q;
     few = omega arith;
     place = omega arith;
     bytes = [];
@@ -90,31 +92,31 @@ module _ {e : Edition} {labels : List ℕ → search.Found} {offset : ℕ} {s ro
 
   module _ {out : List ℕ} {n p i : ℕ} (g : Going e labels offset s row out₀ k out n p i) where
     -- a code 0 ends the row, and so do eight
-    pub at-zero : (code : ℕ) → i < 8 → length row ≡ 8 → code ≡ getD row i 0 → code ≡ 0 → OperandsPut (allIn e labels offset s row) out₀ k out (answer.Written n)
-    at-zero code h l c z =
-        let r : i < length row = omega arith in
+    pub at-zero : (code : ℕ) → i < 8 → code ≡ getD row i 0 → code ≡ 0 → OperandsPut (allIn e labels offset s row) out₀ k out (answer.Written n)
+    at-zero code h c z =
+        let r : i < length row = omega (arith, g .eight) in
         let d : operandsFrom e labels offset (suc i) (drop i row) (tokens (splitOutside (drop p s))) ≡ written [] =
         rw (drop-cons row i 0 r) (first-none e labels offset (suc i) (getD row i 0) (drop (suc i) row) _ (sym c ∙ z)) in
         whole (g .bytes) n (g .rest ∙ ap (prepend (g .bytes)) d ∙ prepend-end (g .bytes)) refl (g .so-far)
 
-    pub at-end : 8 ≤ i → length row ≡ 8 → OperandsPut (allIn e labels offset s row) out₀ k out (answer.Written n)
+    pub at-end : 8 ≤ i → OperandsPut (allIn e labels offset s row) out₀ k out (answer.Written n)
     unfolding operandsFrom
-    at-end h l =
-        let r : length row ≤ i = omega arith in
+    at-end h =
+        let r : length row ≤ i = omega (arith, g .eight) in
         let d : operandsFrom e labels offset (suc i) (drop i row) (tokens (splitOutside (drop p s))) ≡ written [] = rw (drop-of-length-le row r) in
         whole (g .bytes) n (g .rest ∙ ap (prepend (g .bytes)) d ∙ prepend-end (g .bytes)) refl (g .so-far)
 
     -- the operand i, whose text ends at `end`
-    module _ (code end : ℕ) (t : List ℕ) (v : Value) (h : i < 8) (l : length row ≡ 8) (c : code ≡ getD row i 0) (z : code ≡ 0 → ⊥)
+    module _ (code end : ℕ) (t : List ℕ) (v : Value) (h : i < 8) (c : code ≡ getD row i 0) (z : code ≡ 0 → ⊥)
         (w : end ≡ p + commaAt (drop p s)) (b : end ≤ length s) (f : t ≡ trim (part s p (end - p)))
         (q : v ≡ valueOf (tokenValue (e .bytes) (e .ends) labels offset code t)) where
       value-here : v ≡ valueOf (tokenValue (e .bytes) (e .ends) labels offset (getD row i 0) (getD (tokens (splitOutside (drop p s))) 0 []))
       value-here = rw (token-here s p end (min (end + 1) (length s)) w b refl, sym f, sym c) q
 
-      pub turn : (bits next : ℕ) {o₁ : List ℕ} {n₁ : ℕ} → v ≡ Bits bits → next ≡ min (end + 1) (length s) → Put out n (leBytes (widthOf code) bits) o₁ n₁
+      pub turn : (bits next width : ℕ) {o₁ : List ℕ} {n₁ : ℕ} → v ≡ Bits bits → next ≡ min (end + 1) (length s) → width ≡ widthOf code → Put out n (leBytes width bits) o₁ n₁
           → Going e labels offset s row out₀ k o₁ n₁ next (i + 1)
-      turn bits next m j u =
-          let r : i < length row = omega arith in
+      turn bits next width m j a u =
+          let r : i < length row = omega (arith, g .eight) in
           let ts = tokens (splitOutside (drop p s)) in
           let x = value-bits _ bits (sym value-here ∙ m) in
           let d : operandsFrom e labels offset (suc i) (drop i row) ts
@@ -122,16 +124,17 @@ module _ {e : Edition} {labels : List ℕ → search.Found} {offset : ℕ} {s ro
           rw (sym (tokens-behind s p end next w b j), add-one i, c, drop-cons row i 0 r)
           (first-bits e labels offset (suc i) (getD row i 0) (drop (suc i) row) ts bits (λ y. z (c ∙ y)) x) in
           record {
+            eight = g .eight;
             few = omega arith;
             place = omega (arith, j);
             bytes = g .bytes ++ leBytes (widthOf code) bits;
-            so-far = g .so-far then u;
+            so-far = g .so-far then same-piece (ap (λ (x : ℕ). leBytes x bits) a) u;
             rest = g .rest ∙ ap (prepend (g .bytes)) d ∙ prepend-two (g .bytes) (leBytes (widthOf code) bits) _;
           }
 
       pub refuses : (number operand : ℕ) → v ≡ Refused number → operand ≡ i + 1 → OperandsPut (allIn e labels offset s row) out₀ k out (answer.Refused number operand)
       refuses number operand m j =
-          let r : i < length row = omega arith in
+          let r : i < length row = omega (arith, g .eight) in
           let ts = tokens (splitOutside (drop p s)) in
           let x = value-refused _ number (sym value-here ∙ m) in
           let d : operandsFrom e labels offset (suc i) (drop i row) ts ≡ refusedOperand number operand =

@@ -1,13 +1,13 @@
 -- The first operand of what is left of a text, and those behind it. Assumes nothing.
-use mathlib.Core.Path.{_≡_, refl, sym}
+use mathlib.Core.Path.{_≡_, refl, ap, sym}
 use Prim.Native.Nat.{ℕ, _+_, _-_, _≤_, min}
 use native.Mathlib.Omega.{arith}
 use mathlib.Core.List.{List, [], _∷_}
-use lib.ListN.{length, drop, getD, drop-of-length-le}
+use lib.ListN.{length, drop, getD, drop-of-length-le, length-take, length-drop}
 use Rattle.lists.specs.Scan.{run, part}
 use Rattle.lists.proofs.Parts.{part-rest}
 use Rattle.lists.proofs.Tests.{by-eqb, by-leb}
-use Rattle.spec_hasm.specs.Text.{solidLength, trim}
+use Rattle.spec_hasm.specs.Text.{isWhite, solidLength, trimStart, trim}
 use Rattle.spec_hasm.specs.Split.{splitOutside, tokens}
 use Rattle.hasm_text.specs.Commas.{commaAt, commaOutside}
 use Rattle.hasm_text.proofs.OperandLaws.{tokens-blank, operand-comma, operand-blank, operand-last}
@@ -47,3 +47,11 @@ module _ (s : List ℕ) (at k next : ℕ) (e : k ≡ at + commaAt (drop at s)) (
       (λ l.
       let n : next ≡ k + 1 = omega (arith, f) in
       rw (operand-comma s at k e l, n))
+
+-- a token is no longer than the text that it stands in
+trim-short : (s : List ℕ) → length (trim s) ≤ length s
+unfolding trim
+trim-short s = let d = trimStart s in omega (arith, length-take (solidLength d) d, length-drop (run isWhite s) s)
+
+pub token-short : (s t : List ℕ) (at k : ℕ) → t ≡ trim (part s at (k - at)) → length t ≤ length s
+token-short s t at k e = omega (arith, ap length e, trim-short (part s at (k - at)), length-take (k - at) (drop at s), length-drop at s)

@@ -1,5 +1,5 @@
 -- A token's value by the family of its type, and a jump's distance by how its target is told. Assumes nothing.
-use mathlib.Core.Path.{_≡_, refl, ap, _∙_}
+use mathlib.Core.Path.{_≡_, refl, ap, sym, _∙_}
 use mathlib.Core.List.{List}
 use Prim.Native.Nat.{ℕ, _-_, _^_, _%_, _<_}
 use native.Mathlib.Omega.{arith}
@@ -16,7 +16,9 @@ use Rattle.spec_hasm.specs.Token.Value.{value, refused}
 use Rattle.slices.specs.Answers.{foundOf}
 use Rattle.slices.specs.declared.search.Found.{Found}
 use Rattle.slices.specs.declared.search.Found.the-variants.{At, Missing}
-use Rattle.tokens.specs.Values.{valueOf}
+use Rattle.tokens.specs.Values.{valueOf, targetOr}
+use Rattle.tokens.specs.declared.address.Target.{Target}
+use Rattle.tokens.specs.declared.address.Target.the-variants as target
 use Rattle.tokens.specs.declared.number.Value.{Value}
 use Rattle.tokens.specs.declared.number.Value.the-variants.{Bits, Refused}
 
@@ -34,9 +36,9 @@ module _ (bytes ends : List ℕ) (labels : List ℕ → search.Found) (offset co
   unfolding tokenValue
   of-string e g = rw e g
 
-  pub of-address : familyOf code ≡ 4 → v ≡ valueOf (distanceTo (widthOf code) offset (targetIn labels t)) → v ≡ valueOf (tokenValue bytes ends labels offset code t)
+  pub of-address : (w : ℕ) → familyOf code ≡ 4 → w ≡ widthOf code → v ≡ valueOf (distanceTo w offset (targetIn labels t)) → v ≡ valueOf (tokenValue bytes ends labels offset code t)
   unfolding tokenValue
-  of-address e g = rw e g
+  of-address w e f g = rw (e, sym f) g
 
   pub of-immediate : familyOf code ≡ 5 → v ≡ valueOf (numberOr 11 (parseI32 t)) → v ≡ valueOf (tokenValue bytes ends labels offset code t)
   unfolding tokenValue
@@ -74,6 +76,23 @@ module _ (width offset : ℕ) (l : search.Found) where
   pub label-missing : foundOf l ≡ Missing → Refused 7 ≡ valueOf (distanceTo width offset (foundOr 7 l))
   unfolding distanceTo foundOr
   label-missing e = rw (was-missing l e)
+
+-- the distance to a target, by how the token tells it: its offset, a label, or neither
+module _ (t : List ℕ) (width offset : ℕ) (r : Target) (h : (labels : List ℕ → search.Found) → targetIn labels t ≡ targetOr r (labels t))
+    (labels : List ℕ → search.Found) where
+  by-target : (a : Target) → r ≡ a → valueOf (distanceTo width offset (targetIn labels t)) ≡ valueOf (distanceTo width offset (targetOr a (labels t)))
+  by-target a e = ap (λ (x : definition.Value). valueOf (distanceTo width offset x)) (h labels ∙ ap (λ (b : Target). targetOr b (labels t)) e)
+
+  pub to-offset : (n : ℕ) {v : Value} → r ≡ target.Offset n → v ≡ valueOf (distanceTo width offset (value n)) → v ≡ valueOf (distanceTo width offset (targetIn labels t))
+  to-offset n e g = g ∙ sym (by-target (target.Offset n) e)
+
+  pub to-label : {f : Found} {v : Value} → r ≡ target.Label → f ≡ foundOf (labels t)
+      → ((l : search.Found) → f ≡ foundOf l → v ≡ valueOf (distanceTo width offset (foundOr 7 l))) → v ≡ valueOf (distanceTo width offset (targetIn labels t))
+  to-label e f g = g (labels t) f ∙ sym (by-target target.Label e)
+
+  pub to-none : r ≡ target.Bad → Refused 7 ≡ valueOf (distanceTo width offset (targetIn labels t))
+  unfolding distanceTo
+  to-none e = sym (by-target target.Bad e)
 
 -- a token's value that is bits, or a refusal
 pub value-bits : (x : definition.Value) (n : ℕ) → valueOf x ≡ Bits n → x ≡ value n

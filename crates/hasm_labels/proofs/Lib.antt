@@ -1,4 +1,5 @@
 pub mod CodeSteps
 pub mod HoldLaws
 pub mod LabelLaws
+pub mod LineTurns
 pub mod NameLaws

@@ -1,3 +1,4 @@
+pub mod Going
 pub mod Holding
 pub mod NameReads
 pub mod Slots

@@ -1,5 +1,6 @@
 // The names and the labels of an assembler's text.
 pub mod find;
 pub mod hold;
+pub mod line;
 pub mod name;
 pub mod slot;

@@ -1,0 +1,220 @@
+-- One line of the pass over names and labels. Assumes nothing.
+use mathlib.Core.Path.{_≡_, refl, ap, sym, _∙_}
+use mathlib.Core.Bool.{true, false}
+use Prim.Native.Nat.{ℕ, _+_, _-_, _*_, _≤_, _<_}
+use native.Mathlib.Omega.{arith}
+use mathlib.Core.List.{List, [], _∷_, _++_, append-assoc}
+use lib.ListN.{length, drop, length-take}
+use lib.Seq.{take-take, drop-drop}
+use Rattle.lists.specs.Scan.{run, part}
+use Rattle.spec_listing.specs.Edition.{Edition}
+use Rattle.spec_hasm.specs.Text.{linesOf}
+use Rattle.spec_hasm.specs.Line as definition
+use Rattle.spec_hasm.specs.Line.{statementOf}
+use Rattle.spec_hasm.specs.Line.Statement.{nothing, labelled, instruction}
+use Rattle.spec_hasm.specs.Assemble.{Assembled, Code, Label, LabelAt, codesFrom, codesOf, unlessBadName, sizeIn, holding, labelsFrom}
+use Rattle.spec_hasm.specs.Assemble.Label.{none, called}
+use Rattle.hasm_text.specs.Lines.{notFeed, lineLength, lineIn}
+use Rattle.hasm_text.proofs.LineLaws.{line-short}
+use Rattle.hasm_line.specs.Statements.{StatementIn}
+use Rattle.hasm_line.proofs.PartLaws.{drop-take}
+use Rattle.hasm_labels.specs.Holding.{waiting, Held}
+use Rattle.hasm_labels.specs.NameReads.{RefusedBy, Sized}
+use Rattle.hasm_labels.specs.Going.{Passed, CodeTaken, Going, Turned}
+use Rattle.hasm_labels.specs.declared.hold.Progress.{Progress}
+use Rattle.hasm_labels.proofs.CodeSteps.{codeOf, codes-nothing, codes-label, codes-code}
+use Rattle.hasm_line.specs.Statements.StatementIn.{none as read-none, label as read-label, code as read-code}
+use Rattle.hasm_line.specs.declared.statement.Statement.the-variants.{Nothing, Label as LabelRead, Instruction}
+
+-- the progress behind an instruction of k bytes, and behind a label
+abbrev passed : Progress → ℕ → Progress
+passed q k = record { waits = false; start = 0; size = 0; count = q .count; offset = q .offset + k; has = q .has; place = q .place; refusal = 0 }
+
+abbrev labelRead : Progress → ℕ → ℕ → Progress
+labelRead p s m = record { waits = true; start = s; size = m; count = p .count; offset = p .offset; has = p .has; place = p .place; refusal = 0 }
+
+-- an instruction takes the label that waits, or is refused
+module _ (e : Edition) (s text t : List ℕ) (slots : List (List ℕ)) (p : Progress) (slots′ : List (List ℕ)) where
+  pub code-passed : (q : Progress) (k : ℕ) → Sized e s k → Held text t slots p slots′ q → CodeTaken e s text t slots p slots′ (passed q k)
+  code-passed q k z h =
+      record {
+        good = λ x y.
+            record {
+              bytes = k;
+              sized = z;
+              waits = refl;
+              start = refl;
+              size = refl;
+              count = h .count;
+              offset = ap (λ (i : ℕ). i + k) (h .offset);
+              place = h .place;
+              noted = λ labels w. let u = h .noted labels w in record { counted = u .counted; last = u .last; stored = u .stored };
+              refusal = refl;
+            };
+        unknown = λ w. absurd (let v : _≡_ {A = ℕ} 0 4 = w in omega (arith, v));
+        miscounted = λ w. absurd (let v : _≡_ {A = ℕ} 0 5 = w in omega (arith, v));
+      }
+
+  pub code-unknown : (q : Progress) → q .refusal ≡ 4 → RefusedBy e 4 s → CodeTaken e s text t slots p slots′ q
+  code-unknown q r f = record { good = λ x y. absurd (x r); unknown = λ w. f; miscounted = λ w. absurd (omega (arith, w, r)) }
+
+  pub code-miscounted : (q : Progress) → q .refusal ≡ 5 → RefusedBy e 5 s → CodeTaken e s text t slots p slots′ q
+  code-miscounted q r f = record { good = λ x y. absurd (y r); unknown = λ w. absurd (omega (arith, w, r)); miscounted = λ w. f }
+
+-- what a line was read as
+module _ (x : definition.Statement) (l : List ℕ) where
+  pub was-nothing : StatementIn x l Nothing → x ≡ nothing
+  was-nothing (read-none p q) = p
+  was-nothing (read-label a n p q h) = absurd (let z : _≡_ {A = ℕ} 0 1 = cc q in omega (arith, z))
+  was-nothing (read-code a b p q h i) = absurd (let z : _≡_ {A = ℕ} 0 1 = cc q in omega (arith, z))
+
+  pub was-label : (a n : ℕ) → StatementIn x l (LabelRead a n) → (x ≡ labelled (part l a n)) × (a + n ≤ length l)
+  was-label a n (read-none p q) = absurd (let z : _≡_ {A = ℕ} 0 1 = cc q in omega (arith, z))
+  was-label a n (read-label c m p q h) =
+      let u : a ≡ c = cc q in
+      let v : n ≡ m = cc q in
+      rw (u, v) (p, h)
+  was-label a n (read-code c b p q h i) = absurd (let z : _≡_ {A = ℕ} 0 1 = cc q in omega (arith, z))
+
+  pub was-code : (a b : ℕ) → StatementIn x l (Instruction a b) → (x ≡ instruction (part l a (b - a))) × (a ≤ b) × (b ≤ length l)
+  was-code a b (read-none p q) = absurd (let z : _≡_ {A = ℕ} 0 1 = cc q in omega (arith, z))
+  was-code a b (read-label c m p q h) = absurd (let z : _≡_ {A = ℕ} 0 1 = cc q in omega (arith, z))
+  was-code a b (read-code c d p q h i) =
+      let u : a ≡ c = cc q in
+      let v : b ≡ d = cc q in
+      rw (u, v) (p, h, i)
+
+-- a part of a part
+part-part : (s : List ℕ) (at n a m : ℕ) → a + m ≤ length (part s at n) → part (part s at n) a m ≡ part s (at + a) m
+part-part s at n a m h =
+    let k : m ≤ n - a = omega (arith, h, length-take n (drop at s)) in
+    rw (drop-take a n (drop at s), drop-drop a at s) (take-take m (n - a) (drop (at + a) s) k)
+
+holding-split : (w : Label) (at : ℕ) (rest : List LabelAt) → holding w at rest ≡ holding w at [] ++ rest
+unfolding holding
+holding-split none at rest = refl
+holding-split (called t) at rest = refl
+
+labels-cons : (e : Edition) (at : ℕ) (c : Code) (cs : List Code) → labelsFrom e at (c ∷ cs) ≡ holding (c .label) at [] ++ labelsFrom e (at + sizeIn e c) cs
+unfolding labelsFrom
+labels-cons e at c cs = holding-split (c .label) at (labelsFrom e (at + sizeIn e c) cs)
+
+-- the pass in front of a line whose end was found
+module _ (e : Edition) (text t : List ℕ) (at n end : ℕ) (p : Progress) (slots : List (List ℕ)) (g : Going e text t at n p slots)
+    (h : at < length text) (k : end ≡ at + run notFeed (drop at text)) (m : end ≤ length text) where
+  pub turn-nothing : statementOf e (lineIn text at end) ≡ nothing → Turned e text t (end + 1) n p slots
+  turn-nothing x =
+      let cs = codes-nothing e n (waiting text p) text at end h k x in
+      record {
+        good = λ y z.
+            record {
+              near = omega arith;
+              few = omega (arith, g .few, k);
+              start = g .start;
+              size = g .size;
+              count = omega (arith, g .count, k);
+              offset = omega (arith, g .offset, k);
+              place = omega (arith, g .place, k);
+              fine = g .fine;
+              names = λ rest. g .names rest ∙ ap (λ (c : List Code). unlessBadName e c rest) cs;
+              taken = g .taken;
+              labels = g .labels ∙ ap (λ (c : List Code). g .taken ++ labelsFrom e (p .offset) c) cs;
+              noted = g .noted;
+            };
+        unknown = λ w. absurd (omega (arith, w, g .fine));
+        miscounted = λ w. absurd (omega (arith, w, g .fine));
+      }
+
+  pub turn-label : length text ≤ 1048576 → (a i : ℕ) → statementOf e (lineIn text at end) ≡ labelled (part (lineIn text at end) a i) → a + i ≤ length (lineIn text at end)
+      → Turned e text t (end + 1) n (labelRead p (at + a) i) slots
+  turn-label b a i x r =
+      let f = part-part text at (lineLength text at end) a i r in
+      let cs = codes-label e n (waiting text p) text at end h k (part text (at + a) i) (x ∙ ap labelled f) in
+      let o : a + i ≤ end - at = omega (arith, r, line-short text at end) in
+      record {
+        good = λ y z.
+            record {
+              near = omega arith;
+              few = omega (arith, g .few, k);
+              start = omega (arith, o, k);
+              size = omega (arith, o);
+              count = omega (arith, g .count, k);
+              offset = omega (arith, g .offset, k);
+              place = omega (arith, g .place, k);
+              fine = refl;
+              names = λ rest. g .names rest ∙ ap (λ (c : List Code). unlessBadName e c rest) cs;
+              taken = g .taken;
+              labels = g .labels ∙ ap (λ (c : List Code). g .taken ++ labelsFrom e (p .offset) c) cs;
+              noted = let u = g .noted in record { counted = u .counted; last = u .last; stored = u .stored };
+            };
+        unknown = λ w. absurd (let v : _≡_ {A = ℕ} 0 4 = w in omega (arith, v));
+        miscounted = λ w. absurd (let v : _≡_ {A = ℕ} 0 5 = w in omega (arith, v));
+      }
+
+  -- an instruction s
+  module _ (s : List ℕ) (x : statementOf e (lineIn text at end) ≡ instruction s) (slots′ : List (List ℕ)) (p′ : Progress) (d : CodeTaken e s text t slots p slots′ p′) where
+    abbrev here : Code
+    here = codeOf n (waiting text p) s
+
+    abbrev behind : Label → List Code
+    behind w = codesFrom e (n + 1) w (linesOf (drop (end + 1) text))
+
+    names-here : (rest : Assembled) → unlessBadName e (codesOf e text) rest ≡ unlessBadName e (here ∷ behind none) rest
+    names-here rest = g .names rest ∙ ap (λ (c : List Code). unlessBadName e c rest) (codes-code e n (waiting text p) text at end h k s x)
+
+    labels-here : labelsFrom e 0 (codesOf e text) ≡ g .taken ++ holding (waiting text p) (p .offset) [] ++ labelsFrom e (p .offset + sizeIn e here) (behind none)
+    labels-here =
+        g .labels ∙ ap (λ (c : List Code). g .taken ++ labelsFrom e (p .offset) c) (codes-code e n (waiting text p) text at end h k s x)
+        ∙ ap (λ (ls : List LabelAt). g .taken ++ ls) (labels-cons e (p .offset) here (behind none))
+        ∙ sym (append-assoc (g .taken) (holding (waiting text p) (p .offset) []) (labelsFrom e (p .offset + sizeIn e here) (behind none)))
+
+    code-on : Passed e s text t slots p slots′ p′ → Going e text t (end + 1) (n + 1) p′ slots′
+    code-on q =
+        let w : none ≡ waiting text p′ = rw (q .waits) in
+        let o : p .offset + sizeIn e here ≡ p′ .offset = ap (λ (i : ℕ). p .offset + i) (q .sized .size here (refl, refl)) ∙ sym (q .offset) in
+        record {
+          near = omega arith;
+          few = omega (arith, g .few, k);
+          start = omega (arith, q .start);
+          size = omega (arith, q .size);
+          count = omega (arith, g .count, q .count, k);
+          offset = omega (arith, g .offset, q .offset, q .sized .short, k);
+          place = q .place (65 * (end + 1)) (omega (arith, g .offset, k)) (omega (arith, g .place, k));
+          fine = q .refusal;
+          names = λ rest. names-here rest ∙ q .sized .passes here (refl, refl) (behind none) rest ∙ ap (λ (l : Label). unlessBadName e (behind l) rest) w;
+          taken = g .taken ++ holding (waiting text p) (p .offset) [];
+          labels = labels-here
+              ∙ ap (λ (i : ℕ). g .taken ++ holding (waiting text p) (p .offset) [] ++ labelsFrom e i (behind none)) o
+              ∙ ap (λ (l : Label). g .taken ++ holding (waiting text p) (p .offset) [] ++ labelsFrom e (p′ .offset) (behind l)) w;
+          noted = q .noted (g .taken) (g .noted);
+        }
+
+    pub turn-code : Turned e text t (end + 1) n p′ slots′
+    turn-code =
+        record {
+          good = λ y z. code-on (d .good y z);
+          unknown = λ w rest. names-here rest ∙ d .unknown w here (refl, refl) (behind none) rest;
+          miscounted = λ w rest. names-here rest ∙ d .miscounted w here (refl, refl) (behind none) rest;
+        }
+
+  -- by the line l that was read
+  module _ (l : List ℕ) (f : l ≡ lineIn text at end) where
+    pub line-nothing : StatementIn (statementOf e l) l Nothing → Turned e text t (end + 1) n p slots
+    line-nothing u = turn-nothing (was-nothing (statementOf e (lineIn text at end)) (lineIn text at end) (rw f at u))
+
+    pub line-label : length text ≤ 1048576 → (a i : ℕ) → StatementIn (statementOf e l) l (LabelRead a i) → Turned e text t (end + 1) n (labelRead p (at + a) i) slots
+    line-label b a i u =
+        let v = was-label (statementOf e (lineIn text at end)) (lineIn text at end) a i (rw f at u) in
+        turn-label b a i (v .0) (v .1)
+
+    pub line-code : (a b : ℕ) → StatementIn (statementOf e l) l (Instruction a b) → (slots′ : List (List ℕ)) (p′ : Progress) → CodeTaken e (part l a (b - a)) text t slots p slots′ p′
+        → Turned e text t (end + 1) n p′ slots′
+    line-code a b u slots′ p′ d =
+        let v = was-code (statementOf e (lineIn text at end)) (lineIn text at end) a b (rw f at u) in
+        turn-code (part (lineIn text at end) a (b - a)) (v .0) slots′ p′ (rw f at d)
+
+-- a label stands inside the text
+pub label-near : (text : List ℕ) (at end : ℕ) (l : List ℕ) (x : definition.Statement) (a i : ℕ) → l ≡ lineIn text at end → StatementIn x l (LabelRead a i) → a ≤ end
+label-near text at end l x a i f u =
+    let v = was-label x (lineIn text at end) a i (rw f at u) in
+    omega (arith, v .1, line-short text at end)

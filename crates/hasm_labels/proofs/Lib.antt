@@ -3,3 +3,4 @@ pub mod HoldLaws
 pub mod LabelLaws
 pub mod LineTurns
 pub mod NameLaws
+pub mod NamesLaws

@@ -1,4 +1,5 @@
 pub mod Going
 pub mod Holding
 pub mod NameReads
+pub mod NamesRead
 pub mod Slots

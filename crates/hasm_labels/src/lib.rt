@@ -3,4 +3,5 @@ pub mod find;
 pub mod hold;
 pub mod line;
 pub mod name;
+pub mod pass;
 pub mod slot;

@@ -4,3 +4,4 @@ pub mod LabelLaws
 pub mod LineTurns
 pub mod NameLaws
 pub mod NamesLaws
+pub mod TargetLaws

@@ -5,3 +5,4 @@ pub mod line;
 pub mod name;
 pub mod pass;
 pub mod slot;
+pub mod target;

@@ -25,7 +25,7 @@ use Rattle.hasm_text.specs.Commas.{commaAt}
 use Rattle.tokens.specs.Values.{valueOf}
 use Rattle.tokens.specs.declared.number.Value.{Value}
 use Rattle.tokens.specs.declared.number.Value.the-variants.{Bits, Refused}
-use Rattle.hasm_operands.specs.declared.operands.Operands.the-variants as answer
+use Rattle.hasm_operands.specs.declared.write.Operands.the-variants as answer
 use Rattle.hasm_operands.specs.Puts.{OperandsPut}
 use Rattle.hasm_operands.specs.Puts.OperandsPut.{whole, stopped}
 use Rattle.hasm_operands.proofs.ValueLaws.{value-bits, value-refused}

@@ -1,3 +1,3 @@
 // The operands of an instruction of an assembler's text, as bytes.
-pub mod operands;
 pub mod value;
+pub mod write;

@@ -1,0 +1,45 @@
+use Rattle.hasm_operands.proofs.ValueLaws.{of-address}
+use Rattle.hasm_operands.specs.Puts.{edition, labelsOf}
+use mathlib.Core.Path.{sym, _∙_}
+use borrow.Author.Needs.{needs}
+use Rattle.hasm_operands.proofs.value.operand_value.Statement.{statement}
+use Rattle.hasm_operands.proofs.value.operand_value.Tie as tie
+use Rattle.hasm_operands.proofs.value.operand_value.Reads as reads
+use Rattle.hasm_operands.proofs.value.operand_value.Lts as lts
+use Rattle.hasm_operands.proofs.value.plain_value.Reads as plain-value-reads
+use Rattle.hasm_operands.proofs.value.target_distance.Reads as target-distance-reads
+use Rattle.sheet_line.proofs.types.family.Reads as family-reads
+use Rattle.sheet_line.proofs.types.width.Reads as width-reads
+
+family-requires : tie.Need-family-requires
+family-requires c κs = search needs
+
+width-requires : tie.Need-width-requires
+width-requires c κs = search needs
+
+target-distance-requires : tie.Need-target-distance-requires
+target-distance-requires c κs = search needs
+
+returns : tie.Need-returns
+returns c = let a = c .before .before .before .before .before .before .before .before .before .before .before .before .before .before .args in of-address (a .bytes .now) (a .ends .now) (labelsOf (edition (a .source .now) (a .types .now) (a .ops .now) (a .bytes .now) (a .ends .now)) (a .text .now)) (a .offset) (a .code) (a .t .now) _ (sym (c .before .before .before .family .ensures) ∙ c .before .before .if1 .taken) (c .before .width .ensures) (c .target-distance .ensures (a .bytes .now) (a .ends .now))
+
+plain-value-requires : tie.Need-plain-value-requires
+plain-value-requires c κs = search needs
+
+same-length : tie.Need-same-length
+same-length c = search needs
+
+returns-2 : tie.Need-returns-2
+returns-2 c = let a = c .before .before .before .before .before .before .before .before .before .before .before .before .before .before .before .before .args in c .before .before .plain-value .ensures (labelsOf (edition (a .source .now) (a .types .now) (a .ops .now) (a .bytes .now) (a .ends .now)) (a .text .now)) (a .offset) (a .code) (sym (c .before .before .before .before .before .family .ensures)) (c .before .before .before .before .if1 .left)
+
+pub operand-value-spec : {M : Type 1} → statement M
+operand-value-spec =
+    tie.close
+    (tie.spec
+    family-requires
+    width-requires
+    target-distance-requires
+    returns
+    plain-value-requires
+    same-length
+    returns-2)

@@ -1,0 +1,4 @@
+pub mod BodyLoop
+pub mod InstructionLaws
+pub mod LineTurns
+pub mod BodyTurns

@@ -17,23 +17,18 @@ use Rattle.spec_numbers.specs.Parse.{digitValue}
 use Rattle.spec_sheet.specs.Sheet.{isMissing}
 use Rattle.spec_listing.specs.Edition.{Edition}
 use Rattle.spec_hasm.specs.Text.{isWhite}
+use Rattle.hasm_text.proofs.MarkLaws.{mark-length}
 use Rattle.spec_hasm.specs.Line.{opcodeOf, isHexDigit, isLetter, hasHexMark, behindHexMark, isOffset, behindOffset}
 
 -- how many bytes the mark of a hex number takes
 abbrev MarkLength : List ℕ → ℕ → Type 0
 MarkLength s r = (r ≡ pick (hasHexMark s) 2 0) × (r ≤ length s)
 
-pub mark-lower : (s : List ℕ) → opens (text "0x") s ≡ true → MarkLength s 2
-unfolding hasHexMark text
-mark-lower s e = (rw (e, hasHexMark), opens-length (text "0x") s e)
+pub mark-there : (s : List ℕ) → hasHexMark s ≡ true → MarkLength s 2
+mark-there s e = (rw e, mark-length s e)
 
-pub mark-upper : (s : List ℕ) → opens (text "0x") s ≡ false → opens (text "0X") s ≡ true → MarkLength s 2
-unfolding hasHexMark text
-mark-upper s e f = (rw (e, f, hasHexMark), opens-length (text "0X") s f)
-
-pub mark-none : (s : List ℕ) → opens (text "0x") s ≡ false → opens (text "0X") s ≡ false → MarkLength s 0
-unfolding hasHexMark
-mark-none s e f = (rw (e, f, hasHexMark), omega arith)
+pub mark-none : (s : List ℕ) → hasHexMark s ≡ false → MarkLength s 0
+mark-none s e = (rw e, omega arith)
 
 -- by what a byte is worth as a digit
 pub hex-digit : (b d : ℕ) → d ≡ digitValue b → d < 16 → isHexDigit b ≡ true

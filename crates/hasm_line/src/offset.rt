@@ -8,22 +8,16 @@ ghost use Rattle.lists.specs.Scan.{run};
 ghost use Rattle.spec_hasm.specs.Text.{isWhite};
 ghost use Rattle.spec_hasm.specs.Line.{isHexDigit, isLetter, hasHexMark, behindOffset};
 ghost use Rattle.names.specs.Keys.{NamesIndexed};
+use hasm_text::mark::has_hex_mark;
 use numbers::parse::digit_value;
 use slices::compare::is_within;
-use slices::compare::opens_at;
 use slices::search::Found;
 
 // How many bytes `0x` or `0X` take, where one opens s.
 fn mark_length(s: &[u8]) -> usize
     ensures { λ r. ⌜ (r ≡ pick (hasHexMark (now (s .entry))) 2 0) × (r ≤ length (now (s .entry))) ⌝ }
 {
-    if opens_at(s, 0, b"0x") {
-        return 2;
-    }
-    if opens_at(s, 0, b"0X") {
-        return 2;
-    }
-    0
+    if has_hex_mark(s) { 2 } else { 0 }
 }
 
 // The end of the hex digits at `at`.

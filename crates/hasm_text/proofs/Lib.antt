@@ -5,3 +5,4 @@ pub mod CommaLaws
 pub mod OperandLaws
 pub mod LineLaws
 pub mod CheckLaws
+pub mod MarkLaws

@@ -2,7 +2,7 @@
 ghost use mathlib.Core.Path.{_≡_};
 ghost use Prim.Native.Nat.{_+_, _-_, _<_, _≤_};
 ghost use lib.ListN.{length, drop};
-ghost use Rattle.spec_hasm.specs.Comment.{isComment, outside, inside, stripComment};
+ghost use Rattle.spec_hasm.specs.Comment.{isComment, outside, inside};
 ghost use Rattle.hasm_text.specs.Quotes.{byteBefore};
 use crate::quote::is_quote_at;
 
@@ -61,11 +61,4 @@ pub fn comment_start(s: &[u8]) -> usize
     ensures { λ r. ⌜ (r ≡ outside 0 (now (s .entry))) × (r ≤ length (now (s .entry))) ⌝ }
 {
     outside_quotes(s, 0)
-}
-
-pub fn strip_comment(s: &[u8]) -> &[u8]
-    ensures { λ r. ⌜ now r ≡ stripComment (now (s .entry)) ⌝ }
-{
-    let n = comment_start(s);
-    &s[..n]
 }

@@ -2,5 +2,6 @@
 pub mod commas;
 pub mod comment;
 pub mod lines;
+pub mod mark;
 pub mod quote;
 pub mod white;

@@ -56,11 +56,3 @@ module _ (t : List ℕ) where
   pub unsigned-decimal : {m : Number} {v : Value} → hasHexMark t ≡ false → m ≡ numberOf (parseU32 t) → v ≡ bitsOr 11 m → v ≡ valueOf (unsignedValue t)
   unfolding unsignedValue
   unsigned-decimal h e f = rw h (number-read 11 (parseU32 t) e f)
-
-  -- what has the mark has its two bytes
-  pub mark-length : hasHexMark t ≡ true → 2 ≤ length t
-  unfolding hasHexMark text
-  mark-length e =
-      by-test (opens (text "0x") t)
-      (λ y. opens-length (text "0x") t y)
-      (λ n. opens-length (text "0X") t (rw n at e))

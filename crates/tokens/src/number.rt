@@ -4,15 +4,14 @@ ghost use lib.Dec.{eqb};
 ghost use Rattle.lists.specs.Choice.{either};
 ghost use Rattle.spec_numbers.specs.Parse.{parseI32};
 ghost use Rattle.spec_numbers.specs.Double.{readDouble};
-ghost use Rattle.spec_hasm.specs.Line.{hasHexMark};
 ghost use Rattle.spec_hasm.specs.Token.{numberOr, registerValue, unsignedValue};
 ghost use Rattle.tokens.specs.Values.{valueOf, bitsOr};
 use doubles::read::read_double;
+use hasm_text::mark::has_hex_mark;
 use numbers::parse::Number;
 use numbers::parse::parse_hex;
 use numbers::parse::parse_i32;
 use numbers::parse::parse_u32;
-use slices::compare::opens_at;
 
 // The bits of a token's value, or the number that refuses it.
 pub enum Value {
@@ -49,15 +48,6 @@ pub fn register_value(t: &[u8]) -> Value
         return Value::Refused(6);
     }
     bits_or(6, parse_u32(&t[1..]))
-}
-
-fn has_hex_mark(t: &[u8]) -> bool
-    ensures { λ r. ⌜ r ≡ hasHexMark (now (t .entry)) ⌝ }
-{
-    if opens_at(t, 0, b"0x") {
-        return true;
-    }
-    opens_at(t, 0, b"0X")
 }
 
 pub fn unsigned_value(t: &[u8]) -> Value

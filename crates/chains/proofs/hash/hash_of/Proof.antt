@@ -7,7 +7,6 @@ use native.Mathlib.Omega.{arith}
 use borrow.Author.Needs.{needs}
 use Rattle.chains.proofs.hash.hash_of.Statement.{statement}
 use Rattle.chains.proofs.hash.hash_of.Tie as tie
-use Rattle.chains.proofs.hash.hash_with.Reads as hash-with-reads
 
 abbrev Inv-loop : tie.InvT-loop
 Inv-loop s h₀ i₀ h i = (i ≤ length s) × (h < 65536) × (hashFrom 0 s ≡ hashFrom h (drop i s))

@@ -4,11 +4,6 @@ use mathlib.Core.Path.{sym, _∙_, ap}
 use borrow.Author.Needs.{needs}
 use Rattle.hasm_labels.proofs.find.find_label.Statement.{statement}
 use Rattle.hasm_labels.proofs.find.find_label.Tie as tie
-use Rattle.hasm_labels.proofs.find.find_label.Reads as reads
-use Rattle.hasm_labels.proofs.find.find_label.Lts as lts
-use Rattle.hasm_labels.proofs.slot.slot_at.Reads as slot-at-reads
-use Rattle.slices.proofs.compare.same_bytes.Reads as same-bytes-reads
-use Rattle.slices.proofs.part.part_of.Reads as part-of-reads
 
 abbrev Inv-loop : tie.InvT-loop
 Inv-loop text labels t n k₀ k = Seeking text labels t k

@@ -5,11 +5,6 @@ use Rattle.hasm_labels.proofs.HoldLaws.{held-none, held-same, held-othe
 use borrow.Author.Needs.{needs}
 use Rattle.hasm_labels.proofs.hold.hold_label.Statement.{statement}
 use Rattle.hasm_labels.proofs.hold.hold_label.Tie as tie
-use Rattle.hasm_labels.proofs.hold.hold_label.Reads as reads
-use Rattle.hasm_labels.proofs.hold.hold_label.Lts as lts
-use Rattle.hasm_labels.proofs.slot.put_slot.Reads as put-slot-reads
-use Rattle.slices.proofs.compare.same_bytes.Reads as same-bytes-reads
-use Rattle.slices.proofs.part.part_of.Reads as part-of-reads
 
 returns : tie.Need-returns
 returns c = held-none (c .before .before .before .before .args .text .now) (c .before .before .before .before .args .t .now) (c .before .before .before .before .args .labels .now) (c .before .before .before .before .args .p) (not-true _ (c .if1 .taken))

@@ -4,11 +4,6 @@ use Rattle.hasm_labels.proofs.LineTurns.{code-passed, code-unknown, cod
 use borrow.Author.Needs.{needs}
 use Rattle.hasm_labels.proofs.line.take_code.Statement.{statement}
 use Rattle.hasm_labels.proofs.line.take_code.Tie as tie
-use Rattle.hasm_labels.proofs.line.take_code.Reads as reads
-use Rattle.hasm_labels.proofs.line.take_code.Lts as lts
-use Rattle.hasm_labels.proofs.hold.hold_label.Reads as hold-label-reads
-use Rattle.hasm_labels.proofs.line.refuse.Reads as refuse-reads
-use Rattle.hasm_labels.proofs.name.read_name.Reads as read-name-reads
 
 read-name-requires : tie.Need-read-name-requires
 read-name-requires c κs = search needs

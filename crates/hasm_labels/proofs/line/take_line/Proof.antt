@@ -4,11 +4,6 @@ use Rattle.hasm_labels.proofs.LineTurns.{line-nothing, line-label, line
 use borrow.Author.Needs.{needs}
 use Rattle.hasm_labels.proofs.line.take_line.Statement.{statement}
 use Rattle.hasm_labels.proofs.line.take_line.Tie as tie
-use Rattle.hasm_labels.proofs.line.take_line.Reads as reads
-use Rattle.hasm_labels.proofs.line.take_line.Lts as lts
-use Rattle.hasm_labels.proofs.line.take_code.Reads as take-code-reads
-use Rattle.hasm_line.proofs.statement.read_statement.Reads as read-statement-reads
-use Rattle.hasm_text.proofs.lines.line_of.Reads as line-of-reads
 
 line-of-requires : tie.Need-line-of-requires
 line-of-requires c κs = search needs

@@ -4,13 +4,6 @@ use Rattle.hasm_labels.proofs.NameLaws.{row-inside, name-unknown, name-
 use borrow.Author.Needs.{needs}
 use Rattle.hasm_labels.proofs.name.read_name.Statement.{statement}
 use Rattle.hasm_labels.proofs.name.read_name.Tie as tie
-use Rattle.hasm_labels.proofs.name.read_name.Reads as reads
-use Rattle.hasm_labels.proofs.name.read_name.Lts as lts
-use Rattle.hasm_text.proofs.commas.count_operands.Reads as count-operands-reads
-use Rattle.hasm_text.proofs.white.skip.Reads as skip-reads
-use Rattle.names.proofs.index.find_indexed.Reads as find-indexed-reads
-use Rattle.records.proofs.record.instruction_length.Reads as instruction-length-reads
-use Rattle.records.proofs.record.operand_count.Reads as operand-count-reads
 
 skip-requires : tie.Need-skip-requires
 skip-requires c κs = search needs

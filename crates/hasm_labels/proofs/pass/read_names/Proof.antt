@@ -9,10 +9,6 @@ use Rattle.hasm_labels.proofs.NamesLaws.{going-start, going-line, going
 use borrow.Author.Needs.{needs}
 use Rattle.hasm_labels.proofs.pass.read_names.Statement.{statement}
 use Rattle.hasm_labels.proofs.pass.read_names.Tie as tie
-use Rattle.hasm_labels.proofs.pass.read_names.Reads as reads
-use Rattle.hasm_labels.proofs.pass.read_names.Lts as lts
-use Rattle.hasm_labels.proofs.line.take_line.Reads as take-line-reads
-use Rattle.hasm_text.proofs.lines.line_end.Reads as line-end-reads
 
 abbrev Inv-loop : tie.InvT-loop
 Inv-loop text source types ops heads nexts labels₀ t p₀ at₀ n₀ labels p at n = ((bytes ends : List ℕ) → Going (record { sheet = source; types = types; infos = ops; bytes = bytes; ends = ends }) text t at n p labels) × (length labels ≡ length labels₀)

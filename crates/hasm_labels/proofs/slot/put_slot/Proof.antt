@@ -3,8 +3,6 @@ use mathlib.Core.Path.{sym}
 use borrow.Author.Needs.{needs}
 use Rattle.hasm_labels.proofs.slot.put_slot.Statement.{statement}
 use Rattle.hasm_labels.proofs.slot.put_slot.Tie as tie
-use Rattle.hasm_labels.proofs.slot.put_slot.Reads as reads
-use Rattle.hasm_labels.proofs.slot.put_slot.Lts as lts
 
 mul-t7 : tie.Need-mul-t7
 mul-t7 c = search needs

@@ -7,10 +7,6 @@ use Rattle.hasm_labels.proofs.TargetLaws.{all-good, label-found, label-
 use borrow.Author.Needs.{needs}
 use Rattle.hasm_labels.proofs.target.label_offset.Statement.{statement}
 use Rattle.hasm_labels.proofs.target.label_offset.Tie as tie
-use Rattle.hasm_labels.proofs.target.label_offset.Reads as reads
-use Rattle.hasm_labels.proofs.target.label_offset.Lts as lts
-use Rattle.hasm_labels.proofs.find.find_label.Reads as find-label-reads
-use Rattle.hasm_labels.proofs.pass.read_names.Reads as read-names-reads
 
 find-label-requires : tie.Need-find-label-requires
 find-label-requires c κs = search needs

@@ -7,14 +7,6 @@ use Rattle.hasm_line.proofs.OffsetLaws.{no-digit, no-white, no-letter, 
 use borrow.Author.Needs.{needs}
 use Rattle.hasm_line.proofs.offset.behind_offset.Statement.{statement}
 use Rattle.hasm_line.proofs.offset.behind_offset.Tie as tie
-use Rattle.hasm_line.proofs.offset.behind_offset.Reads as reads
-use Rattle.hasm_line.proofs.offset.behind_offset.Lts as lts
-use Rattle.hasm_line.proofs.offset.hex_end.Reads as hex-end-reads
-use Rattle.hasm_line.proofs.offset.is_letter_at.Reads as is-letter-at-reads
-use Rattle.hasm_line.proofs.offset.is_white_at.Reads as is-white-at-reads
-use Rattle.hasm_line.proofs.offset.mark_length.Reads as mark-length-reads
-use Rattle.hasm_text.proofs.white.skip.Reads as skip-reads
-use Rattle.names.proofs.index.find_indexed.Reads as find-indexed-reads
 
 mark-length-requires : tie.Need-mark-length-requires
 mark-length-requires c κs = search needs

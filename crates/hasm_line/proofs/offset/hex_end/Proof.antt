@@ -9,9 +9,6 @@ use Rattle.lists.proofs.Scans.{run-go, run-stop, run-end}
 use borrow.Author.Needs.{needs}
 use Rattle.hasm_line.proofs.offset.hex_end.Statement.{statement}
 use Rattle.hasm_line.proofs.offset.hex_end.Tie as tie
-use Rattle.hasm_line.proofs.offset.hex_end.Reads as reads
-use Rattle.hasm_line.proofs.offset.hex_end.Lts as lts
-use Rattle.numbers.proofs.parse.digit_value.Reads as digit-value-reads
 
 abbrev Inv-loop : tie.InvT-loop
 Inv-loop s at i₀ i = (i ≤ length s) × (at + run isHexDigit (drop at s) ≡ i + run isHexDigit (drop i s))

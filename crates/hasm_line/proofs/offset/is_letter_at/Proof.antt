@@ -3,9 +3,6 @@ use lib.ListN.{List·getD-eq-default}
 use borrow.Author.Needs.{needs}
 use Rattle.hasm_line.proofs.offset.is_letter_at.Statement.{statement}
 use Rattle.hasm_line.proofs.offset.is_letter_at.Tie as tie
-use Rattle.hasm_line.proofs.offset.is_letter_at.Reads as reads
-use Rattle.hasm_line.proofs.offset.is_letter_at.Lts as lts
-use Rattle.slices.proofs.compare.is_within.Reads as is-within-reads
 
 returns : tie.Need-returns
 returns c = rw (List·getD-eq-default (c .before .before .args .s .now) 0 (c .if1 .taken))

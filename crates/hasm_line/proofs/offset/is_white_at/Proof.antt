@@ -3,9 +3,6 @@ use lib.ListN.{List·getD-eq-default}
 use borrow.Author.Needs.{needs}
 use Rattle.hasm_line.proofs.offset.is_white_at.Statement.{statement}
 use Rattle.hasm_line.proofs.offset.is_white_at.Tie as tie
-use Rattle.hasm_line.proofs.offset.is_white_at.Reads as reads
-use Rattle.hasm_line.proofs.offset.is_white_at.Lts as lts
-use Rattle.hasm_text.proofs.white.is_white.Reads as is-white-reads
 
 shared-slice-read-is-white : tie.Need-shared-slice-read-is-white
 shared-slice-read-is-white c = search needs

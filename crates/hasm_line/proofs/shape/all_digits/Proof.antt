@@ -9,9 +9,6 @@ use mathlib.Core.Path.{_≡_, sym, _∙_}
 use borrow.Author.Needs.{needs}
 use Rattle.hasm_line.proofs.shape.all_digits.Statement.{statement}
 use Rattle.hasm_line.proofs.shape.all_digits.Tie as tie
-use Rattle.hasm_line.proofs.shape.all_digits.Reads as reads
-use Rattle.hasm_line.proofs.shape.all_digits.Lts as lts
-use Rattle.slices.proofs.compare.is_within.Reads as is-within-reads
 
 abbrev Inv-loop : tie.InvT-loop
 Inv-loop s i₀ i = (i ≤ length s) × (all isDigit s ≡ all isDigit (drop i s))

@@ -3,9 +3,6 @@ use Rattle.hasm_line.proofs.ShapeLaws.{label-short, label-first, label-
 use borrow.Author.Needs.{needs}
 use Rattle.hasm_line.proofs.shape.is_label.Statement.{statement}
 use Rattle.hasm_line.proofs.shape.is_label.Tie as tie
-use Rattle.hasm_line.proofs.shape.is_label.Reads as reads
-use Rattle.hasm_line.proofs.shape.is_label.Lts as lts
-use Rattle.hasm_line.proofs.shape.all_digits.Reads as all-digits-reads
 
 returns : tie.Need-returns
 returns c = sym (label-short (c .before .before .args .s .now) (c .if1 .taken))

@@ -4,9 +4,6 @@ use Rattle.hasm_line.proofs.ShapeLaws.{skip-empty, skip-function, skip-
 use borrow.Author.Needs.{needs}
 use Rattle.hasm_line.proofs.shape.is_skipped.Statement.{statement}
 use Rattle.hasm_line.proofs.shape.is_skipped.Tie as tie
-use Rattle.hasm_line.proofs.shape.is_skipped.Reads as reads
-use Rattle.hasm_line.proofs.shape.is_skipped.Lts as lts
-use Rattle.slices.proofs.compare.opens_at.Reads as opens-at-reads
 
 returns : tie.Need-returns
 returns c = sym (skip-empty (c .before .before .args .s .now) (c .if1 .taken))

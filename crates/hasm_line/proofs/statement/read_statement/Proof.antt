@@ -5,14 +5,6 @@ use Rattle.hasm_line.proofs.StatementLaws.{Cut, cut-at, cut-not-empty, 
 use borrow.Author.Needs.{needs}
 use Rattle.hasm_line.proofs.statement.read_statement.Statement.{statement}
 use Rattle.hasm_line.proofs.statement.read_statement.Tie as tie
-use Rattle.hasm_line.proofs.statement.read_statement.Reads as reads
-use Rattle.hasm_line.proofs.statement.read_statement.Lts as lts
-use Rattle.hasm_line.proofs.offset.behind_offset.Reads as behind-offset-reads
-use Rattle.hasm_line.proofs.shape.is_label.Reads as is-label-reads
-use Rattle.hasm_line.proofs.shape.is_skipped.Reads as is-skipped-reads
-use Rattle.hasm_text.proofs.comment.comment_start.Reads as comment-start-reads
-use Rattle.hasm_text.proofs.white.skip.Reads as skip-reads
-use Rattle.hasm_text.proofs.white.solid_length.Reads as solid-length-reads
 
 -- what stands of the line
 cut : (c : tie.After-solid-length) → let line = c .before .before .before .before .before .before .before .before .before .args .line .now in let a = c .before .before .skip .result in let n = c .solid-length .result in Cut line a n (part line a (a + n - a))

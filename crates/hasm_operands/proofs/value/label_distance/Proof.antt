@@ -3,9 +3,6 @@ use mathlib.Core.Path.{sym, _∙_}
 use borrow.Author.Needs.{needs}
 use Rattle.hasm_operands.proofs.value.label_distance.Statement.{statement}
 use Rattle.hasm_operands.proofs.value.label_distance.Tie as tie
-use Rattle.hasm_operands.proofs.value.label_distance.Reads as reads
-use Rattle.hasm_operands.proofs.value.label_distance.Lts as lts
-use Rattle.tokens.proofs.address.distance_to.Reads as distance-to-reads
 
 enum-known-label : tie.Need-enum-known-label
 enum-known-label c = search needs

@@ -4,12 +4,6 @@ use mathlib.Core.Path.{sym, _∙_}
 use borrow.Author.Needs.{needs}
 use Rattle.hasm_operands.proofs.value.operand_value.Statement.{statement}
 use Rattle.hasm_operands.proofs.value.operand_value.Tie as tie
-use Rattle.hasm_operands.proofs.value.operand_value.Reads as reads
-use Rattle.hasm_operands.proofs.value.operand_value.Lts as lts
-use Rattle.hasm_operands.proofs.value.plain_value.Reads as plain-value-reads
-use Rattle.hasm_operands.proofs.value.target_distance.Reads as target-distance-reads
-use Rattle.sheet_line.proofs.types.family.Reads as family-reads
-use Rattle.sheet_line.proofs.types.width.Reads as width-reads
 
 family-requires : tie.Need-family-requires
 family-requires c κs = search needs

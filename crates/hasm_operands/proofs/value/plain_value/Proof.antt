@@ -3,13 +3,6 @@ use mathlib.Core.Path.{sym, _∙_}
 use borrow.Author.Needs.{needs}
 use Rattle.hasm_operands.proofs.value.plain_value.Statement.{statement}
 use Rattle.hasm_operands.proofs.value.plain_value.Tie as tie
-use Rattle.hasm_operands.proofs.value.plain_value.Reads as reads
-use Rattle.hasm_operands.proofs.value.plain_value.Lts as lts
-use Rattle.tokens.proofs.number.double_value.Reads as double-value-reads
-use Rattle.tokens.proofs.number.register_value.Reads as register-value-reads
-use Rattle.tokens.proofs.number.signed_value.Reads as signed-value-reads
-use Rattle.tokens.proofs.number.unsigned_value.Reads as unsigned-value-reads
-use Rattle.tokens.proofs.text.string_value.Reads as string-value-reads
 
 register-value-requires : tie.Need-register-value-requires
 register-value-requires c κs = search needs

@@ -5,12 +5,6 @@ use native.Mathlib.Omega.{arith}
 use borrow.Author.Needs.{needs}
 use Rattle.hasm_operands.proofs.value.target_distance.Statement.{statement}
 use Rattle.hasm_operands.proofs.value.target_distance.Tie as tie
-use Rattle.hasm_operands.proofs.value.target_distance.Reads as reads
-use Rattle.hasm_operands.proofs.value.target_distance.Lts as lts
-use Rattle.hasm_labels.proofs.target.label_offset.Reads as label-offset-reads
-use Rattle.hasm_operands.proofs.value.label_distance.Reads as label-distance-reads
-use Rattle.tokens.proofs.address.distance_to.Reads as distance-to-reads
-use Rattle.tokens.proofs.address.target_in.Reads as target-in-reads
 
 target-in-requires : tie.Need-target-in-requires
 target-in-requires c κs = search needs

@@ -9,14 +9,6 @@ use Prim.Native.Nat.{_-_}
 use borrow.Author.Needs.{needs}
 use Rattle.hasm_operands.proofs.write.put_operands.Statement.{statement}
 use Rattle.hasm_operands.proofs.write.put_operands.Tie as tie
-use Rattle.hasm_operands.proofs.write.put_operands.Reads as reads
-use Rattle.hasm_operands.proofs.write.put_operands.Lts as lts
-use Rattle.hasm_operands.proofs.write.behind_comma.Reads as behind-comma-reads
-use Rattle.hasm_operands.proofs.value.operand_value.Reads as operand-value-reads
-use Rattle.hasm_text.proofs.commas.comma_from.Reads as comma-from-reads
-use Rattle.hasm_text.proofs.white.trim.Reads as trim-reads
-use Rattle.numbers.proofs.io.put_le.Reads as put-le-reads
-use Rattle.sheet_line.proofs.types.width.Reads as width-reads
 
 abbrev Inv-loop : tie.InvT-loop
 Inv-loop s offset bytes ends text-heads text-nexts text source types ops heads nexts labels fits work₀ out₀ k row n₀ p₀ i₀ work out n p i =

@@ -7,10 +7,6 @@ use Rattle.hasm_text.proofs.OperandLaws.{count-comma, count-blank, coun
 use borrow.Author.Needs.{needs}
 use Rattle.hasm_text.proofs.commas.count_operands.Statement.{statement}
 use Rattle.hasm_text.proofs.commas.count_operands.Tie as tie
-use Rattle.hasm_text.proofs.commas.count_operands.Reads as reads
-use Rattle.hasm_text.proofs.commas.count_operands.Lts as lts
-use Rattle.hasm_text.proofs.commas.comma_from.Reads as comma-from-reads
-use Rattle.hasm_text.proofs.white.trim.Reads as trim-reads
 
 abbrev Inv-loop : tie.InvT-loop
 Inv-loop s at₀ n₀ at n = (n ≤ at) × (at ≤ length s) × (length (tokens (splitOutside s)) ≡ n + length (tokens (splitOutside (drop at s))))

@@ -3,8 +3,6 @@ use Rattle.hasm_text.proofs.CommentLaws.{no-slash, one-slash, last-slas
 use borrow.Author.Needs.{needs}
 use Rattle.hasm_text.proofs.comment.is_comment_at.Statement.{statement}
 use Rattle.hasm_text.proofs.comment.is_comment_at.Tie as tie
-use Rattle.hasm_text.proofs.comment.is_comment_at.Reads as reads
-use Rattle.hasm_text.proofs.comment.is_comment_at.Lts as lts
 
 shared-slice-read-if1 : tie.Need-shared-slice-read-if1
 shared-slice-read-if1 c = search needs

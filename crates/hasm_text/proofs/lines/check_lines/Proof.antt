@@ -6,11 +6,6 @@ use Rattle.hasm_text.proofs.CheckLaws.{Going, going-start, going-end, g
 use borrow.Author.Needs.{needs}
 use Rattle.hasm_text.proofs.lines.check_lines.Statement.{statement}
 use Rattle.hasm_text.proofs.lines.check_lines.Tie as tie
-use Rattle.hasm_text.proofs.lines.check_lines.Reads as reads
-use Rattle.hasm_text.proofs.lines.check_lines.Lts as lts
-use Rattle.hasm_text.proofs.lines.is_text.Reads as is-text-reads
-use Rattle.hasm_text.proofs.lines.line_end.Reads as line-end-reads
-use Rattle.hasm_text.proofs.lines.line_of.Reads as line-of-reads
 
 abbrev Inv-loop : tie.InvT-loop
 Inv-loop text at₀ n₀ at n = Going text at n

@@ -9,9 +9,6 @@ use mathlib.Core.Path.{_≡_, sym, _∙_}
 use borrow.Author.Needs.{needs}
 use Rattle.hasm_text.proofs.lines.is_text.Statement.{statement}
 use Rattle.hasm_text.proofs.lines.is_text.Tie as tie
-use Rattle.hasm_text.proofs.lines.is_text.Reads as reads
-use Rattle.hasm_text.proofs.lines.is_text.Lts as lts
-use Rattle.hasm_text.proofs.lines.is_text_byte.Reads as is-text-byte-reads
 
 abbrev Inv-loop : tie.InvT-loop
 Inv-loop line i₀ i = (i ≤ length line) × (all isTextByte line ≡ all isTextByte (drop i line))

@@ -3,9 +3,6 @@ use Rattle.hasm_text.proofs.CheckLaws.{shown-byte, tab-or-feed, other-b
 use borrow.Author.Needs.{needs}
 use Rattle.hasm_text.proofs.lines.is_text_byte.Statement.{statement}
 use Rattle.hasm_text.proofs.lines.is_text_byte.Tie as tie
-use Rattle.hasm_text.proofs.lines.is_text_byte.Reads as reads
-use Rattle.hasm_text.proofs.lines.is_text_byte.Lts as lts
-use Rattle.slices.proofs.compare.is_within.Reads as is-within-reads
 
 is-within-requires : tie.Need-is-within-requires
 is-within-requires c κs = search needs

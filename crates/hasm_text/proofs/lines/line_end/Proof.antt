@@ -10,8 +10,6 @@ use Rattle.lists.proofs.Scans.{run-go, run-stop, run-end}
 use borrow.Author.Needs.{needs}
 use Rattle.hasm_text.proofs.lines.line_end.Statement.{statement}
 use Rattle.hasm_text.proofs.lines.line_end.Tie as tie
-use Rattle.hasm_text.proofs.lines.line_end.Reads as reads
-use Rattle.hasm_text.proofs.lines.line_end.Lts as lts
 
 abbrev Inv-loop : tie.InvT-loop
 Inv-loop s at i₀ i = (i ≤ length s) × (at + run notFeed (drop at s) ≡ i + run notFeed (drop i s))

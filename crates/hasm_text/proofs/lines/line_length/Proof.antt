@@ -3,8 +3,6 @@ use Rattle.hasm_text.proofs.LineLaws.{length-none, length-last, length-
 use borrow.Author.Needs.{needs}
 use Rattle.hasm_text.proofs.lines.line_length.Statement.{statement}
 use Rattle.hasm_text.proofs.lines.line_length.Tie as tie
-use Rattle.hasm_text.proofs.lines.line_length.Reads as reads
-use Rattle.hasm_text.proofs.lines.line_length.Lts as lts
 
 returns : tie.Need-returns
 returns c =

@@ -3,10 +3,6 @@ use mathlib.Core.Path.{ap, _∙_}
 use borrow.Author.Needs.{needs}
 use Rattle.hasm_text.proofs.lines.line_of.Statement.{statement}
 use Rattle.hasm_text.proofs.lines.line_of.Tie as tie
-use Rattle.hasm_text.proofs.lines.line_of.Reads as reads
-use Rattle.hasm_text.proofs.lines.line_of.Lts as lts
-use Rattle.hasm_text.proofs.lines.line_length.Reads as line-length-reads
-use Rattle.slices.proofs.part.part_of.Reads as part-of-reads
 
 line-length-requires : tie.Need-line-length-requires
 line-length-requires c κs = search needs

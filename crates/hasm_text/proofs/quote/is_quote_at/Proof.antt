@@ -4,8 +4,6 @@ use Rattle.hasm_text.proofs.QuoteLaws.{no-quote, plain-quote, first-quo
 use borrow.Author.Needs.{needs}
 use Rattle.hasm_text.proofs.quote.is_quote_at.Statement.{statement}
 use Rattle.hasm_text.proofs.quote.is_quote_at.Tie as tie
-use Rattle.hasm_text.proofs.quote.is_quote_at.Reads as reads
-use Rattle.hasm_text.proofs.quote.is_quote_at.Lts as lts
 
 shared-slice-read-if1 : tie.Need-shared-slice-read-if1
 shared-slice-read-if1 c = search needs

@@ -3,9 +3,6 @@ use mathlib.Core.Path.{ap}
 use borrow.Author.Needs.{needs}
 use Rattle.hasm_text.proofs.white.is_space.Statement.{statement}
 use Rattle.hasm_text.proofs.white.is_space.Tie as tie
-use Rattle.hasm_text.proofs.white.is_space.Reads as reads
-use Rattle.hasm_text.proofs.white.is_space.Lts as lts
-use Rattle.hasm_text.proofs.white.is_white.Reads as is-white-reads
 
 is-white-requires : tie.Need-is-white-requires
 is-white-requires c κs = search needs

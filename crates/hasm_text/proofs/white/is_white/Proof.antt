@@ -3,9 +3,6 @@ use Rattle.spec_hasm.specs.Text.{isWhite}
 use borrow.Author.Needs.{needs}
 use Rattle.hasm_text.proofs.white.is_white.Statement.{statement}
 use Rattle.hasm_text.proofs.white.is_white.Tie as tie
-use Rattle.hasm_text.proofs.white.is_white.Reads as reads
-use Rattle.hasm_text.proofs.white.is_white.Lts as lts
-use Rattle.slices.proofs.compare.is_within.Reads as is-within-reads
 
 is-within-requires : tie.Need-is-within-requires
 is-within-requires c κs = search needs

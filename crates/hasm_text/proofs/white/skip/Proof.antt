@@ -8,9 +8,6 @@ use Rattle.lists.proofs.Scans.{run-go, run-stop, run-end}
 use borrow.Author.Needs.{needs}
 use Rattle.hasm_text.proofs.white.skip.Statement.{statement}
 use Rattle.hasm_text.proofs.white.skip.Tie as tie
-use Rattle.hasm_text.proofs.white.skip.Reads as reads
-use Rattle.hasm_text.proofs.white.skip.Lts as lts
-use Rattle.hasm_text.proofs.white.is_space.Reads as is-space-reads
 
 abbrev Inv-loop : tie.InvT-loop
 Inv-loop s at white i₀ i = (i ≤ length s) × (at + run (isSpace white) (drop at s) ≡ i + run (isSpace white) (drop i s))

@@ -8,9 +8,6 @@ use Rattle.hasm_text.proofs.WhiteLaws.{back-white, back-solid, back-non
 use borrow.Author.Needs.{needs}
 use Rattle.hasm_text.proofs.white.solid_length.Statement.{statement}
 use Rattle.hasm_text.proofs.white.solid_length.Tie as tie
-use Rattle.hasm_text.proofs.white.solid_length.Reads as reads
-use Rattle.hasm_text.proofs.white.solid_length.Lts as lts
-use Rattle.hasm_text.proofs.white.is_white.Reads as is-white-reads
 
 abbrev Inv-loop : tie.InvT-loop
 Inv-loop s n₀ n = (n ≤ length s) × (solidLength s ≡ solidLength (take n s))

@@ -4,10 +4,6 @@ use Rattle.hasm_text.proofs.WhiteLaws.{trim-is}
 use borrow.Author.Needs.{needs}
 use Rattle.hasm_text.proofs.white.trim.Statement.{statement}
 use Rattle.hasm_text.proofs.white.trim.Tie as tie
-use Rattle.hasm_text.proofs.white.trim.Reads as reads
-use Rattle.hasm_text.proofs.white.trim.Lts as lts
-use Rattle.hasm_text.proofs.white.skip.Reads as skip-reads
-use Rattle.hasm_text.proofs.white.solid_length.Reads as solid-length-reads
 
 skip-requires : tie.Need-skip-requires
 skip-requires c κs = search needs

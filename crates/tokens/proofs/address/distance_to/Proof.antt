@@ -5,10 +5,6 @@ use mathlib.Core.Path.{ap, sym, _∙_}
 use borrow.Author.Needs.{needs}
 use Rattle.tokens.proofs.address.distance_to.Statement.{statement}
 use Rattle.tokens.proofs.address.distance_to.Tie as tie
-use Rattle.tokens.proofs.address.distance_to.Reads as reads
-use Rattle.tokens.proofs.address.distance_to.Lts as lts
-use Rattle.numbers.proofs.signed.wrapping_distance.Reads as wrapping-distance-reads
-use Rattle.tokens.proofs.address.is_near.Reads as is-near-reads
 
 cast-wrapping-distance : tie.Need-cast-wrapping-distance
 cast-wrapping-distance c = search needs

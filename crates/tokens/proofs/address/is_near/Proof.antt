@@ -2,8 +2,6 @@ use Rattle.tokens.proofs.AddressLaws.{near-small, near-large}
 use mathlib.Core.Path.{sym}
 use Rattle.tokens.proofs.address.is_near.Statement.{statement}
 use Rattle.tokens.proofs.address.is_near.Tie as tie
-use Rattle.tokens.proofs.address.is_near.Reads as reads
-use Rattle.tokens.proofs.address.is_near.Lts as lts
 
 returns : tie.Need-returns
 returns c = sym (near-small _ (c .if1 .taken))

@@ -3,9 +3,6 @@ use mathlib.Core.Path.{sym, _∙_}
 use borrow.Author.Needs.{needs}
 use Rattle.tokens.proofs.address.target_in.Statement.{statement}
 use Rattle.tokens.proofs.address.target_in.Tie as tie
-use Rattle.tokens.proofs.address.target_in.Reads as reads
-use Rattle.tokens.proofs.address.target_in.Lts as lts
-use Rattle.numbers.proofs.parse.parse_u32.Reads as parse-u32-reads
 
 returns : tie.Need-returns
 returns c = λ labels. target-none (c .before .before .args .t .now) labels (c .if1 .taken)

@@ -3,8 +3,6 @@ use mathlib.Core.Path.{ap, sym}
 use borrow.Author.Needs.{needs}
 use Rattle.tokens.proofs.number.bits_or.Statement.{statement}
 use Rattle.tokens.proofs.number.bits_or.Tie as tie
-use Rattle.tokens.proofs.number.bits_or.Reads as reads
-use Rattle.tokens.proofs.number.bits_or.Lts as lts
 
 enum-known-read : tie.Need-enum-known-read
 enum-known-read c = search needs

@@ -3,10 +3,6 @@ use Rattle.spec_numbers.specs.Double.{readDouble}
 use borrow.Author.Needs.{needs}
 use Rattle.tokens.proofs.number.double_value.Statement.{statement}
 use Rattle.tokens.proofs.number.double_value.Tie as tie
-use Rattle.tokens.proofs.number.double_value.Reads as reads
-use Rattle.tokens.proofs.number.double_value.Lts as lts
-use Rattle.doubles.proofs.read.read_double.Reads as read-double-reads
-use Rattle.tokens.proofs.number.bits_or.Reads as bits-or-reads
 
 read-double-requires : tie.Need-read-double-requires
 read-double-requires c κs = search needs

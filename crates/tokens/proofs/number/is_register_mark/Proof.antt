@@ -1,8 +1,6 @@
 use borrow.Author.Tests.{eq-eqb, ne-eqb}
 use Rattle.tokens.proofs.number.is_register_mark.Statement.{statement}
 use Rattle.tokens.proofs.number.is_register_mark.Tie as tie
-use Rattle.tokens.proofs.number.is_register_mark.Reads as reads
-use Rattle.tokens.proofs.number.is_register_mark.Lts as lts
 
 returns : tie.Need-returns
 returns c = rw (eq-eqb _ _ (c .if1 .taken))

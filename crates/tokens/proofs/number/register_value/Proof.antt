@@ -5,11 +5,6 @@ use mathlib.Core.Path.{ap, sym, _∙_}
 use borrow.Author.Needs.{needs}
 use Rattle.tokens.proofs.number.register_value.Statement.{statement}
 use Rattle.tokens.proofs.number.register_value.Tie as tie
-use Rattle.tokens.proofs.number.register_value.Reads as reads
-use Rattle.tokens.proofs.number.register_value.Lts as lts
-use Rattle.numbers.proofs.parse.parse_u32.Reads as parse-u32-reads
-use Rattle.tokens.proofs.number.bits_or.Reads as bits-or-reads
-use Rattle.tokens.proofs.number.is_register_mark.Reads as is-register-mark-reads
 
 returns : tie.Need-returns
 returns c = sym (ap valueOf (register-none (c .before .before .args .t .now) (c .if1 .taken)))

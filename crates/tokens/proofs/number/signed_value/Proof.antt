@@ -3,10 +3,6 @@ use Rattle.spec_numbers.specs.Parse.{parseI32}
 use borrow.Author.Needs.{needs}
 use Rattle.tokens.proofs.number.signed_value.Statement.{statement}
 use Rattle.tokens.proofs.number.signed_value.Tie as tie
-use Rattle.tokens.proofs.number.signed_value.Reads as reads
-use Rattle.tokens.proofs.number.signed_value.Lts as lts
-use Rattle.numbers.proofs.parse.parse_i32.Reads as parse-i32-reads
-use Rattle.tokens.proofs.number.bits_or.Reads as bits-or-reads
 
 parse-i32-requires : tie.Need-parse-i32-requires
 parse-i32-requires c κs = search needs

@@ -1,15 +1,10 @@
-use Rattle.tokens.proofs.TokenLaws.{unsigned-hex, unsigned-decimal, mark-length}
+use Rattle.tokens.proofs.TokenLaws.{unsigned-hex, unsigned-decimal}
+use Rattle.hasm_text.proofs.MarkLaws.{mark-length}
 use native.Mathlib.Omega.{arith}
 use mathlib.Core.Path.{sym, _∙_}
 use borrow.Author.Needs.{needs}
 use Rattle.tokens.proofs.number.unsigned_value.Statement.{statement}
 use Rattle.tokens.proofs.number.unsigned_value.Tie as tie
-use Rattle.tokens.proofs.number.unsigned_value.Reads as reads
-use Rattle.tokens.proofs.number.unsigned_value.Lts as lts
-use Rattle.numbers.proofs.parse.parse_hex.Reads as parse-hex-reads
-use Rattle.numbers.proofs.parse.parse_u32.Reads as parse-u32-reads
-use Rattle.tokens.proofs.number.bits_or.Reads as bits-or-reads
-use Rattle.tokens.proofs.number.has_hex_mark.Reads as has-hex-mark-reads
 
 has-hex-mark-requires : tie.Need-has-hex-mark-requires
 has-hex-mark-requires c κs = search needs

@@ -9,8 +9,6 @@ use mathlib.Core.Path.{_≡_, sym, _∙_}
 use borrow.Author.Needs.{needs}
 use Rattle.tokens.proofs.text.all_literal.Statement.{statement}
 use Rattle.tokens.proofs.text.all_literal.Tie as tie
-use Rattle.tokens.proofs.text.all_literal.Reads as reads
-use Rattle.tokens.proofs.text.all_literal.Lts as lts
 
 abbrev Inv-loop : tie.InvT-loop
 Inv-loop s i₀ i = (i ≤ length s) × (all isLiteral s ≡ all isLiteral (drop i s))

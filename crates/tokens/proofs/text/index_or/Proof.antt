@@ -3,8 +3,6 @@ use mathlib.Core.Path.{ap, sym}
 use borrow.Author.Needs.{needs}
 use Rattle.tokens.proofs.text.index_or.Statement.{statement}
 use Rattle.tokens.proofs.text.index_or.Tie as tie
-use Rattle.tokens.proofs.text.index_or.Reads as reads
-use Rattle.tokens.proofs.text.index_or.Lts as lts
 
 enum-known-found : tie.Need-enum-known-found
 enum-known-found c = search needs

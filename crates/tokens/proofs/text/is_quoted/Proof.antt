@@ -3,8 +3,6 @@ use mathlib.Core.Path.{sym}
 use borrow.Author.Needs.{needs}
 use Rattle.tokens.proofs.text.is_quoted.Statement.{statement}
 use Rattle.tokens.proofs.text.is_quoted.Tie as tie
-use Rattle.tokens.proofs.text.is_quoted.Reads as reads
-use Rattle.tokens.proofs.text.is_quoted.Lts as lts
 
 returns : tie.Need-returns
 returns c = sym (quoted-short (c .before .args .t .now) (c .if1 .taken))

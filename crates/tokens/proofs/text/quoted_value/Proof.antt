@@ -4,12 +4,6 @@ use mathlib.Core.Path.{sym, _∙_}
 use borrow.Author.Needs.{needs}
 use Rattle.tokens.proofs.text.quoted_value.Statement.{statement}
 use Rattle.tokens.proofs.text.quoted_value.Tie as tie
-use Rattle.tokens.proofs.text.quoted_value.Reads as reads
-use Rattle.tokens.proofs.text.quoted_value.Lts as lts
-use Rattle.strings.proofs.util.put_unescaped.Reads as put-unescaped-reads
-use Rattle.texts.proofs.index.lookup_indexed.Reads as lookup-indexed-reads
-use Rattle.tokens.proofs.text.all_literal.Reads as all-literal-reads
-use Rattle.tokens.proofs.text.index_or.Reads as index-or-reads
 
 all-literal-requires : tie.Need-all-literal-requires
 all-literal-requires c κs = search needs

@@ -6,11 +6,6 @@ use mathlib.Core.Path.{ap, sym, _∙_}
 use borrow.Author.Needs.{needs}
 use Rattle.tokens.proofs.text.string_value.Statement.{statement}
 use Rattle.tokens.proofs.text.string_value.Tie as tie
-use Rattle.tokens.proofs.text.string_value.Reads as reads
-use Rattle.tokens.proofs.text.string_value.Lts as lts
-use Rattle.tokens.proofs.number.unsigned_value.Reads as unsigned-value-reads
-use Rattle.tokens.proofs.text.is_quoted.Reads as is-quoted-reads
-use Rattle.tokens.proofs.text.quoted_value.Reads as quoted-value-reads
 
 unsigned-value-requires : tie.Need-unsigned-value-requires
 unsigned-value-requires c κs = search needs

@@ -2,11 +2,8 @@ use Rattle.spec_hasm.specs.Line.{hasHexMark}
 use Rattle.lists.specs.Text.{text}
 use mathlib.Core.Path.{sym, _∙_}
 use borrow.Author.Needs.{needs}
-use Rattle.tokens.proofs.number.has_hex_mark.Statement.{statement}
-use Rattle.tokens.proofs.number.has_hex_mark.Tie as tie
-use Rattle.tokens.proofs.number.has_hex_mark.Reads as reads
-use Rattle.tokens.proofs.number.has_hex_mark.Lts as lts
-use Rattle.slices.proofs.compare.opens_at.Reads as opens-at-reads
+use Rattle.hasm_text.proofs.mark.has_hex_mark.Statement.{statement}
+use Rattle.hasm_text.proofs.mark.has_hex_mark.Tie as tie
 
 slice-aggregate-opens-at : tie.Need-slice-aggregate-opens-at
 slice-aggregate-opens-at c = search needs

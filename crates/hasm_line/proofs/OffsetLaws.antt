@@ -9,9 +9,7 @@ use lib.Dec.{ltb}
 use lib.ListN.{length, drop, getD}
 use lib.Seq.{drop-drop, getD-drop}
 use Rattle.lists.specs.Choice.{pick, both}
-use Rattle.lists.specs.Scan.{run, opens, part}
-use Rattle.lists.specs.Text.{text}
-use Rattle.lists.proofs.Scans.{opens-length}
+use Rattle.lists.specs.Scan.{run, part}
 use Rattle.lists.proofs.Tests.{both-no-right, both-no-left, both-yes}
 use Rattle.spec_numbers.specs.Parse.{digitValue}
 use Rattle.spec_sheet.specs.Sheet.{isMissing}

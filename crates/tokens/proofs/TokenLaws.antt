@@ -2,15 +2,11 @@
 use mathlib.Core.Path.{_≡_, refl, ap, _∙_}
 use mathlib.Core.Bool.{true, false}
 use mathlib.Core.List.{List, [], _∷_}
-use Prim.Native.Nat.{ℕ, _-_, _≤_}
+use Prim.Native.Nat.{ℕ, _-_}
 use native.Mathlib.Omega.{arith}
 use lib.Dec.{eqb}
 use lib.ListN.{length, take, drop, getD}
 use Rattle.lists.specs.Choice.{either}
-use Rattle.lists.specs.Scan.{opens}
-use Rattle.lists.specs.Text.{text}
-use Rattle.lists.proofs.Scans.{opens-length}
-use Rattle.lists.proofs.Tests.{by-test}
 use Rattle.lists.proofs.Parts.{tail-part}
 use Rattle.spec_numbers.specs.Parse.{Parsed, parseU32, parseHex}
 use Rattle.spec_numbers.specs.Parse.Parsed.{is, bad}

@@ -1,1 +1,2 @@
 pub mod UnderLaws
+pub mod EndedLaws

@@ -1,0 +1,43 @@
+-- Assembling by the length of its text. Assumes nothing.
+use mathlib.Core.Path.{_≡_}
+use mathlib.Core.List.{List}
+use Prim.Native.Nat.{ℕ, _<_, _≤_}
+use lib.ListN.{length}
+use borrow.Author.Tests.{lt-ltb, le-ltb}
+use Rattle.spec_body.specs.Operation.{Outcome}
+use Rattle.spec_body.specs.Operation.Outcome.{refusedWith}
+use Rattle.spec_listing.specs.Edition.{Edition}
+use Rattle.spec_listing.specs.Operation.{underInputs}
+use Rattle.spec_hasm.specs.Assemble.{assembleText, entriesFor}
+use Rattle.spec_hasm.specs.Operation.{assembleOutcome, assemble}
+use Rattle.hasm_operands.specs.Puts.{edition}
+use Rattle.spec_answers.specs.Report.{Report, zeros}
+use Rattle.endings.specs.Ends.{Ended}
+use Rattle.inputs.specs.Read.{inputsReport, Given}
+use Rattle.inputs.specs.declared.Inputs.{Inputs}
+use Rattle.inputs.specs.declared.Inputs.the-variants.{Ready}
+use Rattle.inputs.proofs.EndedLaws.{read-on, refused-on}
+
+-- a text under an edition, whose largest opcode does not count
+abbrev pub textUnder : List ℕ → ℕ → Edition → ℕ → Outcome
+textUnder text lent e last = assembleOutcome lent (entriesFor e text) (assembleText e text)
+
+module _ (sheet bytes ends text : List ℕ) (lent : ℕ) where
+  pub assemble-large : 1048576 < length text → assemble sheet bytes ends text lent ≡ refusedWith 18 0 0
+  unfolding assemble
+  assemble-large h = rw (lt-ltb 1048576 (length text) h)
+
+  pub assemble-small : length text ≤ 1048576 → assemble sheet bytes ends text lent ≡ underInputs sheet bytes ends (textUnder text lent)
+  unfolding assemble
+  assemble-small h = rw (le-ltb 1048576 (length text) h)
+
+-- a text under inputs that were read
+pub read-text : (sheet bytes ends text : List ℕ) {types ops : List (List ℕ)} {last : ℕ} {before after : List ℕ} (lent : ℕ) {r : Report} → length text ≤ 1048576 → Given sheet bytes ends types ops (Ready last)
+    → Ended (assembleOutcome lent (entriesFor (edition sheet types ops bytes ends) text) (assembleText (edition sheet types ops bytes ends) text)) before after r
+    → Ended (assemble sheet bytes ends text lent) before after r
+read-text sheet bytes ends text lent h g e = rw (assemble-small sheet bytes ends text lent h) (read-on (textUnder text lent) g e)
+
+-- and under inputs that are refused
+pub refused-text : (sheet bytes ends text : List ℕ) {types ops : List (List ℕ)} {i : Inputs} {before after : List ℕ} (lent : ℕ) {r : Report} → length text ≤ 1048576 → Given sheet bytes ends types ops i
+    → ((last : ℕ) → i ≡ Ready last → ⊥) → r ≡ inputsReport i → after ≡ zeros before → Ended (assemble sheet bytes ends text lent) before after r
+refused-text sheet bytes ends text lent h g n e z = rw (assemble-small sheet bytes ends text lent h) (refused-on (textUnder text lent) g n e z)

@@ -1,0 +1,60 @@
+// What assembling answers.
+ghost use mathlib.Core.Path.{_≡_};
+ghost use mathlib.Core.List.{List, [], _∷_};
+ghost use Prim.Native.Nat.{ℕ};
+ghost use lib.ListN.{length, replicate};
+ghost use Rattle.spec_answers.specs.Report.{refusal};
+ghost use Rattle.inputs.specs.Read.{inputsReport};
+ghost use Rattle.endings.specs.Ends.{measuredReport};
+ghost use Rattle.assemble.specs.Answers.{assembleReport};
+use endings::Measured;
+use hasm_labels::slot::Slot;
+use inputs::Inputs;
+
+// What assembling answers. The definition assembleReport gives each case its number, place, operand and length.
+pub enum AssembleAnswer {
+    Done(usize),
+    Malformed(usize),
+    BadByte(usize),
+    Long(usize),
+    Unknown(usize),
+    Count(usize),
+    Operand(u64, usize, usize),
+    Fault(usize),
+    TooLarge,
+    Short,
+}
+
+// What a body of k bytes that was measured answers.
+pub fn measured_answer(m: Measured, k: usize) -> AssembleAnswer
+    ensures { λ r. ⌜ assembleReport r ≡ measuredReport k m ⌝ }
+{
+    match m {
+        Measured::Fits => AssembleAnswer::Done(k),
+        Measured::TooLarge => AssembleAnswer::TooLarge,
+        Measured::Short => AssembleAnswer::Short,
+    }
+}
+
+// What inputs that are refused answer.
+pub fn refused_inputs(i: Inputs) -> AssembleAnswer
+    ensures { λ r. ⌜ assembleReport r ≡ inputsReport i ⌝ }
+{
+    match i {
+        Inputs::Ready(_) => AssembleAnswer::Done(0),
+        Inputs::TooLarge => AssembleAnswer::TooLarge,
+        Inputs::Fault(id) => AssembleAnswer::Fault(id),
+        Inputs::Malformed(line) => AssembleAnswer::Malformed(line),
+    }
+}
+
+// Sets every label entry to 0.
+pub fn clear_labels(labels: &mut [Slot])
+    ensures { λ _. ⌜ now (labels .exit) ≡ replicate (length (now (labels .entry))) (0 ∷ 0 ∷ 0 ∷ []) ⌝ }
+{
+    let mut i: usize = 0;
+    while i < labels.len() {
+        labels[i] = [0, 0, 0];
+        i += 1;
+    }
+}

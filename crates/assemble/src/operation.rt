@@ -1,0 +1,62 @@
+// Assembling a text.
+ghost use mathlib.Core.Path.{_≡_};
+ghost use mathlib.Core.List.{[], _∷_};
+ghost use Prim.Native.Nat.{_≤_};
+ghost use lib.ListN.{length, replicate};
+ghost use Rattle.spec_hasm.specs.Assemble.{assembleText, entriesFor};
+ghost use Rattle.spec_hasm.specs.Operation as operation;
+ghost use Rattle.spec_hasm.specs.Operation.{assembleOutcome};
+ghost use Rattle.hasm_operands.specs.Puts.{edition};
+ghost use Rattle.assemble.specs.Answers.{Ended};
+use crate::answer::AssembleAnswer;
+use hasm_labels::slot::Slot;
+use inputs::Inputs;
+use slices::write::clear;
+
+// Assembles a text under the tables of a sheet, whose names are parts of `source`.
+pub fn assemble_under(
+    source: &[u8],
+    types: &[[u8; 8]; 256],
+    ops: &[[usize; 4]; 256],
+    bytes: &[u8],
+    ends: &[u32],
+    text: &[u8],
+    out: &mut [u8],
+    labels: &mut [Slot],
+) -> AssembleAnswer
+    requires { ⌜ (length (now text) ≤ 1048576) × (length (now ends) ≤ 65536) ⌝ }
+    ensures { λ r. ⌜ Ended (assembleOutcome (length (now (labels .entry))) (entriesFor (edition (now (source .entry)) (now (types .entry)) (now (ops .entry)) (now (bytes .entry)) (now (ends .entry))) (now (text .entry))) (assembleText (edition (now (source .entry)) (now (types .entry)) (now (ops .entry)) (now (bytes .entry)) (now (ends .entry))) (now (text .entry)))) (now (out .entry)) (now (out .exit)) r ⌝ }
+    ensures { λ _. ⌜ now (labels .exit) ≡ replicate (length (now (labels .entry))) (0 ∷ 0 ∷ 0 ∷ []) ⌝ }
+{
+    let a = crate::passes::assemble_text(source, types, ops, bytes, ends, text, out, labels);
+    crate::answer::clear_labels(labels);
+    a
+}
+
+// Assembles a text under a sheet given as text and a string table. A label entry is lent for each label that is taken.
+pub fn assemble(
+    sheet: &[u8],
+    bytes: &[u8],
+    ends: &[u32],
+    text: &[u8],
+    out: &mut [u8],
+    labels: &mut [Slot],
+) -> AssembleAnswer
+    ensures { λ r. ⌜ Ended (operation.assemble (now (sheet .entry)) (now (bytes .entry)) (now (ends .entry)) (now (text .entry)) (length (now (labels .entry)))) (now (out .entry)) (now (out .exit)) r ⌝ }
+    ensures { λ _. ⌜ now (labels .exit) ≡ replicate (length (now (labels .entry))) (0 ∷ 0 ∷ 0 ∷ []) ⌝ }
+{
+    if 1048576 < text.len() {
+        clear(out);
+        crate::answer::clear_labels(labels);
+        return AssembleAnswer::TooLarge;
+    }
+    let mut types = [[0u8; 8]; 256];
+    let mut ops = [[0usize; 4]; 256];
+    let i = inputs::read_inputs(sheet, bytes, ends, &mut types, &mut ops);
+    let Inputs::Ready(_) = i else {
+        clear(out);
+        crate::answer::clear_labels(labels);
+        return crate::answer::refused_inputs(i);
+    };
+    assemble_under(sheet, &types, &ops, bytes, ends, text, out, labels)
+}

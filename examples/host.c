@@ -1,5 +1,5 @@
-/* A host of the desk: lists document 01's body and prints the listing.
- * tests/host builds it against the static library and compares what it prints with examples/list.out. */
+/* A host of the desk: lists document 01's body and prints the listing, then assembles that listing, which has to give the
+ * body back. tests/host builds it against the static library and compares what it prints with examples/list.out. */
 #include "../include/desk.h"
 #include <stdio.h>
 #include <string.h>
@@ -14,15 +14,30 @@ static const uint8_t bytes[] = {0x61, 0x2c, 0x62, 0xc3, 0xa9}; /* "a,b" and "é"
 static const uint32_t ends[] = {3, 5};
 static const uint8_t body[] = {0x00, 0x01, 0x07, 0x01, 0x06, 0x02, 0x01, 0x00, 0x00, 0x04, 0x01};
 
+static int refused(struct desk_answer a)
+{
+    if (a.number == 0)
+        return 0;
+    fprintf(stderr, "refused=%u place=%u operand=%u\n", (unsigned)a.number, (unsigned)a.place, (unsigned)a.operand);
+    return 1;
+}
+
 int main(void)
 {
-    uint8_t out[1024];
-    uint32_t entries[16];
+    uint8_t listing[1024], again[64];
+    uint32_t entries[16], labels[16][3];
     struct desk_answer a = desk_list((const uint8_t *)sheet, strlen(sheet), bytes, sizeof bytes, ends, 2, body,
-                                     sizeof body, true, true, true, out, sizeof out, entries, 16);
-    if (a.number != 0) {
-        fprintf(stderr, "refused=%u place=%u operand=%u\n", (unsigned)a.number, (unsigned)a.place, (unsigned)a.operand);
+                                     sizeof body, true, true, true, listing, sizeof listing, entries, 16);
+    if (refused(a) || fwrite(listing, 1, a.length, stdout) != a.length)
+        return 1;
+
+    struct desk_answer b = desk_assemble((const uint8_t *)sheet, strlen(sheet), bytes, sizeof bytes, ends, 2, listing,
+                                         a.length, again, sizeof again, labels, 16);
+    if (refused(b))
+        return 1;
+    if (b.length != sizeof body || memcmp(again, body, sizeof body) != 0) {
+        fprintf(stderr, "the listing was assembled to another body\n");
         return 1;
     }
-    return fwrite(out, 1, a.length, stdout) == a.length ? 0 : 1;
+    return 0;
 }

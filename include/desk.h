@@ -2,14 +2,14 @@
  *
  * A slice is a pointer and a count of elements, in this order; a count of 0 may come with a null pointer.
  * The caller's duties, which no proof sees: each pointer is valid for its count and aligned for its type; a buffer that is
- * written (out, entries) overlaps no other buffer of the call; nothing else touches the buffers during the call.
+ * written (out, entries, labels) overlaps no other buffer of the call; nothing else touches the buffers during the call.
  * There is no state between calls and no allocation.
  *
  * Each function answers four numbers. After success number, place and operand are 0 and length counts what was written.
  * After a refusal number says why (README.md has the table), place where, operand which (from 1, 0 for none), and length
  * is 0. Afterwards
  *   - out holds the result in front and its former content behind it; after a refusal it is all zero;
- *   - entries, which is work space, is all zero in every case.
+ *   - entries and labels, which are work space, are all zero in every case.
  *
  * Inputs that come up again:
  *   sheet      the text of an opcode sheet: version=.., count=.., op=.. lines, each ended by LF
@@ -69,6 +69,12 @@ struct desk_answer desk_list_module(const uint8_t *sheet, size_t sheet_len, cons
                                     size_t functions_len, const uint8_t *area, size_t area_len, uint32_t base,
                                     bool offsets, bool labels, bool texts, uint8_t *out, size_t out_len,
                                     uint32_t *entries, size_t entries_len);
+
+/* Assembles a text into a body. length counts the bytes, and a refusal's place is the text's line. One label entry of
+   three words is needed for each label line that an instruction takes. About 600 KiB of stack are used. */
+struct desk_answer desk_assemble(const uint8_t *sheet, size_t sheet_len, const uint8_t *bytes, size_t bytes_len,
+                                 const uint32_t *ends, size_t ends_len, const uint8_t *text, size_t text_len,
+                                 uint8_t *out, size_t out_len, uint32_t (*labels)[3], size_t labels_len);
 
 #ifdef __cplusplus
 }

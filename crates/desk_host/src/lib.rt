@@ -1,6 +1,7 @@
 // The desk's functions for the host, called from C on numbers and slices: each is the proved operation with its answer as
 // four numbers.
 ghost use mathlib.Core.Path.{_≡_};
+ghost use mathlib.Core.List.{[], _∷_};
 ghost use lib.ListN.{length, replicate};
 ghost use Rattle.spec_body.specs.Operation as operation;
 ghost use Rattle.spec_body.specs.Operation.{report, exitOf};
@@ -12,8 +13,12 @@ ghost use Rattle.spec_listing.specs.Operation as listing;
 ghost use Rattle.listing.specs.Parts.{optionsOf};
 ghost use Rattle.disasm.specs.Answers.{listReport};
 ghost use Rattle.disasm.specs.Functions.{areaOf};
+ghost use Rattle.spec_hasm.specs.Operation as hasm;
+ghost use Rattle.assemble.specs.Answers.{assembleReport};
+use assemble::answer::AssembleAnswer;
 use decode::instructions::DecodeAnswer;
 use disasm::answer::ListAnswer;
+use hasm_labels::slot::Slot;
 use write_record::record::EncodeAnswer;
 
 // Number, place and operand of a refusal, or three zeros and the length.
@@ -227,4 +232,39 @@ pub extern "C" fn desk_list_module(
         out,
         entries,
     ))
+}
+
+// The numbers of assembling's answer.
+pub fn assemble_numbers(a: AssembleAnswer) -> DeskAnswer
+    ensures { λ r. ⌜ r ≡ numbersOf (assembleReport a) ⌝ }
+{
+    match a {
+        AssembleAnswer::Done(n) => done(n),
+        AssembleAnswer::Malformed(line) => refused(1, line, 0),
+        AssembleAnswer::BadByte(line) => refused(2, line, 0),
+        AssembleAnswer::Long(line) => refused(3, line, 0),
+        AssembleAnswer::Unknown(line) => refused(4, line, 0),
+        AssembleAnswer::Count(line) => refused(5, line, 0),
+        AssembleAnswer::Operand(number, line, operand) => refused(number, line, operand),
+        AssembleAnswer::Fault(id) => refused(17, id, 0),
+        AssembleAnswer::TooLarge => refused(18, 0, 0),
+        AssembleAnswer::Short => refused(19, 0, 0),
+    }
+}
+
+// Assembles a text under the sheet `sheet` and a string table. A label entry is three words.
+#[no_mangle]
+pub extern "C" fn desk_assemble(
+    sheet: &[u8],
+    bytes: &[u8],
+    ends: &[u32],
+    text: &[u8],
+    out: &mut [u8],
+    labels: &mut [Slot],
+) -> DeskAnswer
+    ensures { λ r. ⌜ r ≡ numbersOf (report (hasm.assemble (now (sheet .entry)) (now (bytes .entry)) (now (ends .entry)) (now (text .entry)) (length (now (labels .entry)))) (length (now (out .entry)))) ⌝ }
+    ensures { λ _. ⌜ now (out .exit) ≡ exitOf (hasm.assemble (now (sheet .entry)) (now (bytes .entry)) (now (ends .entry)) (now (text .entry)) (length (now (labels .entry)))) (now (out .entry)) ⌝ }
+    ensures { λ _. ⌜ now (labels .exit) ≡ replicate (length (now (labels .entry))) (0 ∷ 0 ∷ 0 ∷ []) ⌝ }
+{
+    assemble_numbers(assemble::operation::assemble(sheet, bytes, ends, text, out, labels))
 }

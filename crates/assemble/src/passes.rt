@@ -1,7 +1,7 @@
 // The passes over a text, in document 01's order: 3 and 2, then 4 and 5, then 6 to 12, then 18 and 19.
 ghost use mathlib.Core.Path.{_≡_};
 ghost use mathlib.Core.List.{List};
-ghost use Prim.Native.Nat.{ℕ, _≤_};
+ghost use Prim.Native.Nat.{ℕ, _≤_, _<_};
 ghost use lib.ListN.{length, take};
 ghost use Rattle.spec_hasm.specs.Text.{linesOf};
 ghost use Rattle.spec_hasm.specs.Assemble.{Assembled, unlessBadLine, assembleText, entriesFor};
@@ -22,7 +22,11 @@ fn name_heads() -> [u32; 1024] {
     [0; 1024]
 }
 
-fn text_heads() -> [u32; 65536] {
+fn few_ids() -> [u32; 256] {
+    [0; 256]
+}
+
+fn all_ids() -> [u32; 65536] {
     [0; 65536]
 }
 
@@ -36,8 +40,11 @@ fn held_labels(labels: &[Slot], count: usize) -> &[Slot]
     labels
 }
 
-// Writes the instructions of a text whose lines and names are good, and measures them. `count` labels are taken.
-fn put_body(
+// Writes the instructions of a text whose lines and names are good, and measures them. `count` labels are taken; the texts'
+// index goes to the two slices of ids.
+fn put_indexed(
+    first_ids: &mut [u32],
+    next_ids: &mut [u32],
     source: &[u8],
     types: &[[u8; 8]; 256],
     ops: &[[usize; 4]; 256],
@@ -50,22 +57,20 @@ fn put_body(
     labels: &[Slot],
     out: &mut [u8],
 ) -> AssembleAnswer
-    requires { ⌜ (length (now text) ≤ 1048576) × (length (now ends) ≤ 65536) × NamesIndexed (now source) (now ops) (now heads) (now nexts) ⌝ }
-    requires { ⌜ NamesGood (now source) (now types) (now ops) (now text) count (now labels) ⌝ }
-    requires { ⌜ ((rest : Assembled) → unlessBadLine 1 (linesOf (now text)) rest ≡ rest) ⌝ }
+    requires { ⌜ (0 < length (now «first_ids»)) × (length (now ends) ≤ length (now «next_ids»)) × (length (now ends) ≤ 65536) ⌝ }
+    requires { ⌜ (length (now text) ≤ 1048576) × NamesIndexed (now source) (now ops) (now heads) (now nexts) ⌝ }
+    requires { ⌜ NamesGood (now source) (now types) (now ops) (now text) count (now labels) × ((rest : Assembled) → unlessBadLine 1 (linesOf (now text)) rest ≡ rest) ⌝ }
     ensures { λ r. ⌜ Ended (assembleOutcome (length (now (labels .entry))) (entriesFor (edition (now (source .entry)) (now (types .entry)) (now (ops .entry)) (now (bytes .entry)) (now (ends .entry))) (now (text .entry))) (assembleText (edition (now (source .entry)) (now (types .entry)) (now (ops .entry)) (now (bytes .entry)) (now (ends .entry))) (now (text .entry)))) (now (out .entry)) (now (out .exit)) r ⌝ }
 {
-    let mut first_ids = text_heads();
-    let mut next_ids = text_heads();
-    texts::index::index_texts(bytes, ends, &mut first_ids, &mut next_ids);
+    texts::index::index_texts(bytes, ends, first_ids, next_ids);
     let mut work = [0u8; 4096];
     let fits = count <= labels.len();
     let held = held_labels(labels, count);
     let b = hasm_body::body::put_instructions(
         bytes,
         ends,
-        &first_ids,
-        &next_ids,
+        first_ids,
+        next_ids,
         text,
         source,
         types,
@@ -87,6 +92,62 @@ fn put_body(
             AssembleAnswer::Operand(number, line, operand)
         }
     }
+}
+
+// The same with space for the index. A small table has a small one, as clearing a large one takes longer than a short text.
+fn put_body(
+    source: &[u8],
+    types: &[[u8; 8]; 256],
+    ops: &[[usize; 4]; 256],
+    heads: &[u32],
+    nexts: &[u32],
+    bytes: &[u8],
+    ends: &[u32],
+    text: &[u8],
+    count: usize,
+    labels: &[Slot],
+    out: &mut [u8],
+) -> AssembleAnswer
+    requires { ⌜ (length (now text) ≤ 1048576) × (length (now ends) ≤ 65536) × NamesIndexed (now source) (now ops) (now heads) (now nexts) ⌝ }
+    requires { ⌜ NamesGood (now source) (now types) (now ops) (now text) count (now labels) × ((rest : Assembled) → unlessBadLine 1 (linesOf (now text)) rest ≡ rest) ⌝ }
+    ensures { λ r. ⌜ Ended (assembleOutcome (length (now (labels .entry))) (entriesFor (edition (now (source .entry)) (now (types .entry)) (now (ops .entry)) (now (bytes .entry)) (now (ends .entry))) (now (text .entry))) (assembleText (edition (now (source .entry)) (now (types .entry)) (now (ops .entry)) (now (bytes .entry)) (now (ends .entry))) (now (text .entry)))) (now (out .entry)) (now (out .exit)) r ⌝ }
+{
+    if ends.len() <= 256 {
+        let mut few_first = few_ids();
+        let mut few_next = few_ids();
+        return put_indexed(
+            &mut few_first,
+            &mut few_next,
+            source,
+            types,
+            ops,
+            heads,
+            nexts,
+            bytes,
+            ends,
+            text,
+            count,
+            labels,
+            out,
+        );
+    }
+    let mut first_ids = all_ids();
+    let mut next_ids = all_ids();
+    put_indexed(
+        &mut first_ids,
+        &mut next_ids,
+        source,
+        types,
+        ops,
+        heads,
+        nexts,
+        bytes,
+        ends,
+        text,
+        count,
+        labels,
+        out,
+    )
 }
 
 // Reads the names of a text whose lines are good, which stores the labels that fit, then writes its instructions.

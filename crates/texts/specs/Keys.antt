@@ -1,5 +1,5 @@
 -- The texts of a string table as keys of an index. Assumes nothing.
-use Prim.Native.Nat.{ℕ}
+use Prim.Native.Nat.{ℕ, _%_, _<_}
 use mathlib.Core.List.{List}
 use lib.ListN.{length, drop}
 use Rattle.lists.specs.Found.{Found}
@@ -7,17 +7,22 @@ use Rattle.spec_strings.specs.Table.{startOf, textOf, lookupFrom}
 use Rattle.chains.specs.Hash.{hashOf}
 use Rattle.chains.specs.Chain.{Chained}
 
--- the hash of the text of an id
-unfoldable pub hashAt : List ℕ → List ℕ → ℕ → ℕ
-hashAt bytes ends id = hashOf (textOf bytes ends id)
+-- the bucket of a text among m
+abbrev pub bucketOf : ℕ → List ℕ → ℕ
+bucketOf m text = hashOf text % m
 
--- the texts of all ids from k on are in chains
-abbrev pub TextsFrom : ℕ → List ℕ → List ℕ → List ℕ → List ℕ → Type 0
-TextsFrom k bytes ends heads nexts = Chained (hashAt bytes ends) 65536 (length ends) k heads nexts
+-- the bucket of the text of an id
+unfoldable pub bucketAt : ℕ → List ℕ → List ℕ → ℕ → ℕ
+bucketAt m bytes ends id = bucketOf m (textOf bytes ends id)
 
--- an index of all texts
-abbrev pub TextsIndexed : List ℕ → List ℕ → List ℕ → List ℕ → Type 0
-TextsIndexed bytes ends heads nexts = TextsFrom 0 bytes ends heads nexts
+-- the texts of all ids from k on are in chains of m buckets
+abbrev pub TextsFrom : ℕ → ℕ → List ℕ → List ℕ → List ℕ → List ℕ → Type 0
+TextsFrom m k bytes ends heads nexts = Chained (bucketAt m bytes ends) m (length ends) k heads nexts
+
+-- an index of all texts, with as many buckets as there are heads
+pub record TextsIndexed (bytes ends heads nexts : List ℕ) : Type 0 where
+  pub some : 0 < length heads
+  pub chained : TextsFrom (length heads) 0 bytes ends heads nexts
 
 -- what a search through the texts from id k on answers
 abbrev pub textFrom : List ℕ → List ℕ → List ℕ → ℕ → Found

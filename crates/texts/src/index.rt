@@ -1,10 +1,11 @@
-// The index is two lent slices: 65536 heads and a next for each id. It answers what `lookup` of the table answers.
+// The index is two lent slices: heads, one for each bucket, and a next for each id. It answers what `lookup` of the table
+// answers, however many heads are lent.
 ghost use mathlib.Core.Path.{_≡_};
 ghost use Prim.Native.Nat.{_≤_, _<_};
 ghost use lib.ListN.{length};
 ghost use Rattle.slices.specs.Answers.{foundOf};
 ghost use Rattle.spec_strings.specs.Table.{startOf, textOf, lookup};
-ghost use Rattle.texts.specs.Keys.{TextsIndexed};
+ghost use Rattle.texts.specs.Keys.{bucketOf, TextsIndexed};
 use slices::search::Found;
 
 // Where the text of an id starts.
@@ -28,9 +29,17 @@ fn text_of<'a>(bytes: &'a [u8], ends: &[u32], id: usize) -> &'a [u8]
     strings::table::entry_part(bytes, start, end)
 }
 
+// The bucket of a text among m.
+fn bucket_of(text: &[u8], m: usize) -> usize
+    requires { ⌜ 0 < m ⌝ }
+    ensures { λ r. ⌜ (r ≡ bucketOf m (now (text .entry))) × (r < m) ⌝ }
+{
+    chains::hash::hash_of(text) % m
+}
+
 // Puts the texts of all ids into chains, from the last id down, so that the first of equal texts is found.
 pub fn index_texts(bytes: &[u8], ends: &[u32], heads: &mut [u32], nexts: &mut [u32])
-    requires { ⌜ (length (now heads) ≡ 65536) × (length (now ends) ≤ 65536) × (length (now ends) ≤ length (now nexts)) ⌝ }
+    requires { ⌜ (0 < length (now heads)) × (length (now ends) ≤ 65536) × (length (now ends) ≤ length (now nexts)) ⌝ }
     ensures { λ _. ⌜ TextsIndexed (now (bytes .entry)) (now (ends .entry)) (now (heads .exit)) (now (nexts .exit)) ⌝ }
 {
     chains::chain::empty_all(heads, ends.len());
@@ -38,7 +47,7 @@ pub fn index_texts(bytes: &[u8], ends: &[u32], heads: &mut [u32], nexts: &mut [u
     while 0 < left {
         let id = left - 1;
         let text = text_of(bytes, ends, id);
-        let h = chains::hash::hash_of(text);
+        let h = bucket_of(text, heads.len());
         chains::chain::insert(heads, nexts, h, id);
         left -= 1;
     }
@@ -55,7 +64,7 @@ pub fn lookup_indexed(
     requires { ⌜ TextsIndexed (now bytes) (now ends) (now heads) (now nexts) ⌝ }
     ensures { λ r. ⌜ r ≡ foundOf (lookup (now (text .entry)) (now (bytes .entry)) (now (ends .entry))) ⌝ }
 {
-    let h = chains::hash::hash_of(text);
+    let h = bucket_of(text, heads.len());
     let mut id = chains::chain::index_at(heads, h);
     while id < ends.len() {
         let own = text_of(bytes, ends, id);

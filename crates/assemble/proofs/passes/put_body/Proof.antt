@@ -1,90 +1,64 @@
-use borrow.Author.Tests.{leb-true}
-use Rattle.hasm_operands.specs.Puts.{edition}
-use Rattle.assemble.specs.Answers.{assembleReport}
-use Rattle.assemble.proofs.PassLaws.{good-text, labels-known, written-end, refused-body}
-use mathlib.Core.Path.{refl}
 use borrow.Author.Needs.{needs}
 use Rattle.assemble.proofs.passes.put_body.Statement.{statement}
 use Rattle.assemble.proofs.passes.put_body.Tie as tie
 
-text-heads-requires : tie.Need-text-heads-requires
-text-heads-requires c κs = search needs
+few-ids-requires : tie.Need-few-ids-requires
+few-ids-requires c κs = search needs
 
-text-heads-requires-2 : tie.Need-text-heads-requires-2
-text-heads-requires-2 c κs = search needs
+few-ids-requires-2 : tie.Need-few-ids-requires-2
+few-ids-requires-2 c κs = search needs
 
-slice-aggregate-index-texts : tie.Need-slice-aggregate-index-texts
-slice-aggregate-index-texts c = search needs
+slice-aggregate-put-indexed : tie.Need-slice-aggregate-put-indexed
+slice-aggregate-put-indexed c = search needs
 
-slice-aggregate-index-texts-2 : tie.Need-slice-aggregate-index-texts-2
-slice-aggregate-index-texts-2 c = search needs
+slice-aggregate-put-indexed-2 : tie.Need-slice-aggregate-put-indexed-2
+slice-aggregate-put-indexed-2 c = search needs
 
-index-texts-requires : tie.Need-index-texts-requires
-index-texts-requires c κs = search needs
-
-held-labels-requires : tie.Need-held-labels-requires
-held-labels-requires c κs = search needs
-
-slice-aggregate-put-instructions : tie.Need-slice-aggregate-put-instructions
-slice-aggregate-put-instructions c = search needs
-
-slice-aggregate-put-instructions-2 : tie.Need-slice-aggregate-put-instructions-2
-slice-aggregate-put-instructions-2 c = search needs
-
-slice-aggregate-put-instructions-3 : tie.Need-slice-aggregate-put-instructions-3
-slice-aggregate-put-instructions-3 c = search needs
-
-put-instructions-requires : tie.Need-put-instructions-requires
-put-instructions-requires c κs = let p = c .before .before .before .before .before .before .before .before .before .before .before .before .before .before .before .before .before .before .before .pre in ((c .before .before .before .before .before .before .before .index-texts .ensures, search needs), (labels-known _ (p .0 .2) (p .0 .0) (p .1 .0) (λ t. leb-true _ _ t) (c .before .before .before .before .held-labels .ensures), p .1 .1))
-
-enum-known-b : tie.Need-enum-known-b
-enum-known-b c = search needs
-
-measure-requires : tie.Need-measure-requires
-measure-requires c κs = search needs
-
-measured-answer-requires : tie.Need-measured-answer-requires
-measured-answer-requires c κs = search needs
-
-enum-known-b-2 : tie.Need-enum-known-b-2
-enum-known-b-2 c = search needs
-
-clear-requires : tie.Need-clear-requires
-clear-requires c κs = search needs
+put-indexed-requires : tie.Need-put-indexed-requires
+put-indexed-requires c κs = let p = c .before .before .before .before .before .before .before .before .before .before .before .before .before .pre in (search needs, ((p .0 .0, p .0 .2), p .1))
 
 same-length : tie.Need-same-length
 same-length c = search needs
 
 returns : tie.Need-returns
-returns c = let a = c .before .before .before .before .before .before .before .before .before .before .before .before .before .before .before .before .before .before .before .before .before .before .before .before .before .before .before .before .before .before .before .args in let p = c .before .before .before .before .before .before .before .before .before .before .before .before .before .before .before .before .before .before .before .before .before .before .before .before .before .before .before .before .before .before .before .pre in let n = p .1 .0 (a .bytes .now) (a .ends .now) in rw (good-text (edition (a .source .now) (a .types .now) (a .ops .now) (a .bytes .now) (a .ends .now)) (a .text .now) (p .1 .1) (n .named)) (written-end _ _ _ _ _ _ (c .before .before .before .before .before .before .before .before .before .before .before .put-instructions .ensures) (c .before .before .before .before .before .before .b .given .1) (n .counted) (c .before .before .before .measure .ensures) (c .measured-answer .ensures))
+returns c = c .before .before .before .before .put-indexed .ensures
+
+all-ids-requires : tie.Need-all-ids-requires
+all-ids-requires c κs = search needs
+
+all-ids-requires-2 : tie.Need-all-ids-requires-2
+all-ids-requires-2 c κs = search needs
+
+slice-aggregate-put-indexed-3 : tie.Need-slice-aggregate-put-indexed-3
+slice-aggregate-put-indexed-3 c = search needs
+
+slice-aggregate-put-indexed-4 : tie.Need-slice-aggregate-put-indexed-4
+slice-aggregate-put-indexed-4 c = search needs
+
+put-indexed-requires-2 : tie.Need-put-indexed-requires-2
+put-indexed-requires-2 c κs = let p = c .before .before .before .before .before .before .before .before .before .before .before .before .before .pre in (search needs, ((p .0 .0, p .0 .2), p .1))
 
 same-length-2 : tie.Need-same-length-2
 same-length-2 c = search needs
 
 returns-2 : tie.Need-returns-2
-unfolding assembleReport
-returns-2 c = let a = c .before .before .before .before .before .before .before .before .before .before .before .before .before .before .before .before .before .before .before .before .before .before .before .before .before .before .before .before .before .before .args in let p = c .before .before .before .before .before .before .before .before .before .before .before .before .before .before .before .before .before .before .before .before .before .before .before .before .before .before .before .before .before .before .pre in let n = p .1 .0 (a .bytes .now) (a .ends .now) in rw (good-text (edition (a .source .now) (a .types .now) (a .ops .now) (a .bytes .now) (a .ends .now)) (a .text .now) (p .1 .1) (n .named)) (refused-body _ _ _ _ _ _ (c .before .before .before .before .before .before .before .before .before .before .put-instructions .ensures) (c .before .before .before .before .before .b2 .given .1) refl (c .before .before .clear .ensures))
+returns-2 c = c .before .before .before .before .put-indexed2 .ensures
 
 pub put-body-spec : {M : Type 1} → statement M
 put-body-spec =
     tie.close
     (tie.spec
-    text-heads-requires
-    text-heads-requires-2
-    slice-aggregate-index-texts
-    slice-aggregate-index-texts-2
-    index-texts-requires
-    held-labels-requires
-    slice-aggregate-put-instructions
-    slice-aggregate-put-instructions-2
-    slice-aggregate-put-instructions-3
-    put-instructions-requires
-    enum-known-b
-    measure-requires
-    measured-answer-requires
-    enum-known-b-2
-    clear-requires
+    few-ids-requires
+    few-ids-requires-2
+    slice-aggregate-put-indexed
+    slice-aggregate-put-indexed-2
+    put-indexed-requires
     same-length
     returns
+    all-ids-requires
+    all-ids-requires-2
+    slice-aggregate-put-indexed-3
+    slice-aggregate-put-indexed-4
+    put-indexed-requires-2
     same-length-2
     returns-2)

@@ -111,6 +111,20 @@ mod c {
             entries: *mut u32,
             entries_len: usize,
         ) -> Answer;
+        pub fn desk_assemble(
+            sheet: *const u8,
+            sheet_len: usize,
+            bytes: *const u8,
+            bytes_len: usize,
+            ends: *const u32,
+            ends_len: usize,
+            text: *const u8,
+            text_len: usize,
+            out: *mut u8,
+            out_len: usize,
+            labels: *mut [u32; 3],
+            labels_len: usize,
+        ) -> Answer;
 
         pub fn part_parse_u32(text: *const u8, text_len: usize) -> Number;
         pub fn part_parse_hex(text: *const u8, text_len: usize) -> Number;
@@ -230,6 +244,25 @@ pub fn list_module(text: &[u8], bytes: &[u8], ends: &[u32], area: Area, shown: S
             out.len(),
             entries.as_mut_ptr(),
             entries.len(),
+        )
+    }
+}
+
+pub fn assemble(sheet: &[u8], bytes: &[u8], ends: &[u32], text: &[u8], out: &mut [u8], labels: &mut [[u32; 3]]) -> Answer {
+    unsafe {
+        c::desk_assemble(
+            sheet.as_ptr(),
+            sheet.len(),
+            bytes.as_ptr(),
+            bytes.len(),
+            ends.as_ptr(),
+            ends.len(),
+            text.as_ptr(),
+            text.len(),
+            out.as_mut_ptr(),
+            out.len(),
+            labels.as_mut_ptr(),
+            labels.len(),
         )
     }
 }

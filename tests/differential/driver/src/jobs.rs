@@ -1,14 +1,12 @@
 // Writes the Rust's listings as jobs with what they print: the cases of crate `replay_jobs`, whose source says the format.
 
-use crate::desk::{Answer, Shown};
-use crate::listing::{self, Spare};
+use crate::desk::Answer;
+use crate::listing::{self, Spare, DEFAULT};
 use crate::random::Random;
 use crate::rust;
 use crate::sheets::{self, Sheet};
 use crate::tally::hex;
 use std::fs;
-
-const DEFAULT: Shown = Shown { offsets: true, labels: true, texts: true };
 
 fn list_job(sheet: &Sheet, strings: &[String], body: &[u8]) -> Vec<u8> {
     let mut job = b"job=list\n".to_vec();

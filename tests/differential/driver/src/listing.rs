@@ -12,6 +12,8 @@ use std::cell::RefCell;
 
 pub const DOUBLE: usize = 11;
 
+pub const DEFAULT: Shown = Shown { offsets: true, labels: true, texts: true };
+
 /// What label entries hold before a call.
 pub const ENTRY: u32 = 0xa5a5_a5a5;
 
@@ -38,7 +40,7 @@ pub fn options(shown: Shown) -> DisasmOptions {
 }
 
 /// Doubles that document 01's domain of demand 2 holds: whole up to 2^53, or infinite.
-fn double(r: &mut Random) -> f64 {
+pub fn double(r: &mut Random) -> f64 {
     let whole = if r.one_in(3) { (1u64 << r.below(54)) as f64 } else { (r.next() % ((1 << 53) + 1)) as f64 };
     *r.pick(&[whole, -whole, 0.0, -0.0, f64::INFINITY, f64::NEG_INFINITY])
 }
@@ -83,7 +85,7 @@ pub fn strings(r: &mut Random) -> Vec<String> {
 
 pub fn shown(r: &mut Random) -> Shown {
     if r.one_in(2) {
-        return Shown { offsets: true, labels: true, texts: true };
+        return DEFAULT;
     }
     Shown { offsets: r.one_in(2), labels: r.one_in(2), texts: r.one_in(2) }
 }

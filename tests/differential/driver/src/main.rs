@@ -1,6 +1,9 @@
 // Feeds the same inputs to the published Rust and to the desk, and compares every answer; times both on request; writes
 // the Rust's answers for the replay.
 
+mod asked;
+mod asm_texts;
+mod assemble;
 mod bench;
 mod decode;
 mod desk;
@@ -30,6 +33,7 @@ fn compare(seed: u64, count: u64) -> bool {
         encode::run(&mut r, count, &sheets, &large),
         listing::run(&mut r, count / 4, &sheets, &large),
         modules::run(&mut r, count / 10, &sheets),
+        assemble::run(&mut r, count, &sheets, &large),
     ];
     let compared: u64 = parts.iter().map(|p| p.0).sum();
     let differ: u64 = parts.iter().map(|p| p.1).sum();

@@ -50,7 +50,7 @@ fn near_edges(t: &mut Tally, r: &mut Random, count: u64) {
 }
 
 /// Whether document 01's domain of demand 2 holds a text: an optional sign and 1 to 16 digits up to 2^53, or an infinity.
-fn comparable(s: &str) -> bool {
+pub fn comparable(s: &str) -> bool {
     let digits = s.strip_prefix(['+', '-']).unwrap_or(s);
     if s == "Infinity" || s == "-Infinity" {
         return true;

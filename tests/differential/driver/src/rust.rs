@@ -113,7 +113,7 @@ pub fn refusal(number: u64, place: usize, operand: usize) -> Answer {
     Answer { number, place: place as u64, operand: operand as u64, length: 0 }
 }
 
-fn message(e: &Error) -> &str {
+pub fn message(e: &Error) -> &str {
     match e {
         Error::Parse(m) | Error::Write(m) => m,
         _ => "",

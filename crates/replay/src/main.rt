@@ -27,18 +27,22 @@
 //    10  part_print_double   as 7, for the 64 bits of a double
 //    11  part_escape         input: a text; expected: the text that comes of it
 //    12  part_unescape       as 11
+//    13  assemble            input: three numbers, the count of strings, of their bytes and of the label entries lent; the
+//                            strings' ends, their bytes, the text; expected: the body
 //
 // 3 to 6 lend nothing: their room is 0 and is not looked at. They answer number 0 where the text is a number, else 1, and
 // length 0.
 // 7 to 12 answer number 0 and the whole text's length. In a smaller room the expected output is the text's front.
 //
 // A case agrees where the four numbers are the answer's, the lent space opens with the expected output, and behind it
-// every byte is still 0xA5 (number 0), or every lent byte is 0 (a refusal).
+// every byte is still 0xA5 (number 0), or every lent byte is 0 (a refusal). Label entries, which are 0xA5 too before the
+// call, have to be zero in any case.
 //
 // A case is broken where standard input ends within it, its operation is none of these, its input is not of the
 // operation's form (words that are cut, a number that is not 8 bytes or, for 8, not below 2^32), or it is too large:
-// a sheet over 16,384 bytes, an input or expected output over 65,536 bytes, a room over 8,192 words or 65,536 bytes, or
-// a case behind the first 1,000,000.
+// a sheet over 16,384 bytes, an input or expected output over 65,536 bytes, a room over 8,192 words or 65,536 bytes, more
+// than 64 strings or label entries, or a case behind the first 1,000,000.
+mod assembling;
 mod case;
 mod lent;
 mod operations;
@@ -89,6 +93,7 @@ fn compared(
             }
             Turn::Agrees(sheet.len())
         }
+        Performed::NotClear => Turn::Stops(Stop::Differs),
         Performed::Broken => Turn::Stops(Stop::Broken),
     }
 }

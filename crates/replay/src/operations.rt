@@ -1,5 +1,6 @@
 // The operations by number: each has its function of the desk called on the parts of a case.
 ghost use Prim.Native.Nat.{_≤_};
+use crate::assembling::assemble;
 use crate::case::Head;
 use crate::lent::bytes_of;
 use crate::lent::words_of;
@@ -9,9 +10,11 @@ use numbers::io::put_le;
 use numbers::io::read_le;
 use slices::write::clear;
 
-// The answer, or that there is no such operation or the input is not of its form.
+// The answer, or that label entries are not clear afterwards, or that there is no such operation or the input is not of its
+// form.
 pub enum Performed {
     Answered(DeskAnswer),
+    NotClear,
     Broken,
 }
 
@@ -43,6 +46,7 @@ pub fn perform(
         6 => value_read(desk_parts::part_parse_double(input), lent),
         11 => written(desk_parts::part_escape(input, lent)),
         12 => written(desk_parts::part_unescape(input, lent)),
+        13 => assemble(sheet, input, lent),
         _ => print(operation, input, lent),
     }
 }

@@ -1,10 +1,14 @@
 // Writes the Rust's answers as the cases of crate `replay`, whose source says the format.
 
+use crate::asked::Asked;
+use crate::asm_texts::{self, TOKENS};
+use crate::assemble::{self, Table};
 use crate::decode;
 use crate::encode;
+use crate::listing::Spare;
 use crate::random::Random;
 use crate::rust;
-use crate::sheets::{self, Sheet};
+use crate::sheets::{self, Sheet, TYPES};
 use crate::tally::BYTE;
 use crate::texts;
 use hbc_decomp::util::escape_js_string;
@@ -108,6 +112,58 @@ fn encoding(file: &mut File, r: &mut Random, sheet: &Sheet, count: usize) {
     }
 }
 
+/// Operation 13's input: the string table, how many label entries are lent, and the text.
+fn text_input(table: &Table, lent: usize, text: &[u8]) -> Vec<u8> {
+    let head = [table.ends.len() as u32, table.bytes.len() as u32, lent as u32];
+    let numbers = head.iter().chain(&table.ends).flat_map(|n| n.to_le_bytes());
+    numbers.chain(table.bytes.iter().copied()).chain(text.iter().copied()).collect()
+}
+
+/// One text, if the Rust tells its refusal with line and operand.
+fn text_case(file: &mut File, asked: &Asked, table: &Table, text: &[u8], spare: Spare) -> bool {
+    let told = assemble::expected(asked, table, text, spare);
+    let Some(e) = told.filter(|e| e.whole) else { return false };
+    let (a, out) = (e.run.answer, e.run.out);
+    let n = Numbers {
+        operation: 13,
+        room: out.len(),
+        number: a.number,
+        place: a.place,
+        operand: a.operand,
+        length: a.length,
+    };
+    let input = text_input(table, e.run.entries.len(), text);
+    file.case(n, &asked.sheet.text, &input, &out[..a.length as usize]);
+    true
+}
+
+/// Short texts as the comparison draws them.
+fn assembling(file: &mut File, r: &mut Random, sheet: &Sheet, count: usize) {
+    let mut f = rust::file_of(&[]);
+    let asked = Asked::new(sheet);
+    let mut done = 0;
+    while done < count {
+        let table = Table::new(asm_texts::strings(r));
+        let text = assemble::random_text(r, sheet, &table, &mut f);
+        let spare = assemble::random_spare(r);
+        if text.len() < 200 {
+            done += text_case(file, &asked, &table, &text, spare) as usize;
+        }
+    }
+}
+
+/// Every token for every type.
+fn tokens(file: &mut File) {
+    let table = Table::new(["a", "a\n"].map(String::from).to_vec());
+    for ty in 0..TYPES.len() {
+        let sheet = assemble::sheet_of_type(ty);
+        let asked = Asked::new(&sheet);
+        for token in TOKENS {
+            assert!(text_case(file, &asked, &table, format!("Last r1, {token}").as_bytes(), assemble::EXACT));
+        }
+    }
+}
+
 fn numbers(file: &mut File, r: &mut Random) {
     let edges = [0u64, 1, 9, 10, 127, 128, 255, 256, 65535, 65536, 0x7fff_ffff, 0x8000_0000, 0xffff_ffff, 0x1_0000_0000, u64::MAX];
     let mut texts: Vec<String> = ["", "+", "-", "0", "-0", "+0", "00", "r1", " 1", "1 ", "0x1", "a", "F", "g", "1_0"].map(String::from).to_vec();
@@ -165,6 +221,10 @@ pub fn write(path: &str) {
     }
     numbers(&mut file, &mut r);
     escapes(&mut file, &mut r);
+    for sheet in &all {
+        assembling(&mut file, &mut r, sheet, 25);
+    }
+    tokens(&mut file);
     std::fs::write(path, &file.bytes).expect("the file is written");
     println!("{} cases, {} bytes, lent space filled with {BYTE:02X}", file.cases, file.bytes.len());
 }

@@ -1,14 +1,18 @@
 // Times both sides on the same inputs in one process, turn by turn, and prints medians of the ratio.
 
+use crate::asm_texts;
+use crate::assemble::Table;
 use crate::desk::{self, Shown};
 use crate::listing;
 use crate::random::Random;
 use crate::rust;
-use crate::sheets::{self, Sheet};
+use crate::sheets::{self, Op, Sheet};
+use crate::stack;
 use crate::texts::table_of;
 use hbc_decomp::disasm::{collect_label_offsets, disassemble_function};
 use hbc_decomp::opcode::BytecodeFormat;
 use hbc_decomp::write::encode::encode_function_body;
+use hbc_decomp::write::hasm::{parse_hasm_function, parse_hasm_with_context};
 use std::collections::HashMap;
 use std::hint::black_box;
 use std::time::Instant;
@@ -180,6 +184,92 @@ fn listings(sheets: &[(usize, Sheet)], strings: usize) {
     }
 }
 
+/// A text to assemble: the default listing of a body that comes back.
+struct Hasm<'a> {
+    sheet: &'a Sheet,
+    table: &'a Table,
+    text: String,
+    body: Vec<u8>,
+    labels: usize,
+}
+
+fn hasm<'a>(r: &mut Random, sheet: &'a Sheet, table: &'a Table, size: usize) -> Hasm<'a> {
+    let body = asm_texts::that_comes_back(r, sheet, table, size);
+    let mut f = rust::file_of(&body);
+    rust::set_strings(&mut f, &table.strings);
+    let text = disassemble_function(&f, &sheet.format, 0, &listing::options(listing::DEFAULT)).unwrap();
+    let labels = text.lines().filter(|l| l.ends_with(':')).count();
+    Hasm { sheet, table, text, body, labels }
+}
+
+/// The desk's call, checked once: lent space is exactly what is needed.
+fn assembler<'a>(h: &'a Hasm, sheet: &'a Sheet, table: &'a Table) -> impl FnMut() + 'a {
+    let mut out = vec![0u8; h.body.len()];
+    let mut labels = vec![[0u32; 3]; h.labels];
+    let mut call = move || {
+        let a = desk::assemble(&sheet.text, &table.bytes, &table.ends, h.text.as_bytes(), &mut out, &mut labels);
+        assert!(black_box(a) == rust::success(h.body.len()));
+    };
+    call();
+    call
+}
+
+fn assembled(h: &Hasm, lookup: &HashMap<String, u32>) {
+    let list = parse_hasm_function(&h.text, &h.sheet.format, lookup).unwrap();
+    black_box(encode_function_body(&h.sheet.format, &list).unwrap());
+}
+
+/// The Rust has its format and its map of the strings at hand, or makes the map in each call (parse_hasm_with_context).
+fn assembling(sheets: &[(usize, Sheet)], strings: usize, map_at_hand: bool) {
+    let map = if map_at_hand { "read before" } else { "read before, its map of the strings made in each call" };
+    heading(&format!("Assembling, the Rust's format {map}, {strings} strings"));
+    let table = cells(strings);
+    let mut f = rust::file_of(&[]);
+    rust::set_strings(&mut f, &table.strings);
+    for (count, sheet) in sheets {
+        let mut r = Random::new(7);
+        let mut grown = Vec::new();
+        for size in SIZES {
+            let h = hasm(&mut r, sheet, &table, size);
+            let rust = || match map_at_hand {
+                true => assembled(&h, &table.lookup),
+                false => {
+                    let list = parse_hasm_with_context(&h.text, &sheet.format, &f).unwrap();
+                    black_box(encode_function_body(&sheet.format, &list).unwrap());
+                }
+            };
+            let t = both(rust, assembler(&h, h.sheet, h.table));
+            row(&format!("{size} bytes, {count} opcodes, text of {}", h.text.len()), &t);
+            grown.push(t.desk);
+        }
+        println!("| growth of the desk from 8 KiB to 64 KiB, {count} opcodes | | {:.1} times | |", grown[3] / grown[2]);
+    }
+}
+
+/// The same text under 4 names and 16 strings, and under 256 names and 65,536 strings that begin with them.
+fn large_tables() {
+    println!("\nAssembling the same text under small and large tables, the desk alone");
+    println!("\n| | 4 names, 16 strings, µs | 256 names, 65,536 strings, µs | times longer |\n|---|---|---|---|");
+    let small = sheets::of_document();
+    let mut ops = small.ops.clone();
+    for code in (0..=255u8).filter(|c| small.ops.iter().all(|o| o.code != *c)) {
+        ops.push(Op { code, name: format!("Other{code}"), jump: false, types: vec![0, 4] });
+    }
+    ops.sort_by_key(|o| o.code);
+    let large = Sheet::new(ops);
+    let (few, many) = (cells(16), cells(65_536));
+    let mut r = Random::new(7);
+    for size in SIZES {
+        let h = hasm(&mut r, &small, &few, size);
+        let t = both(assembler(&h, &small, &few), assembler(&h, &large, &many));
+        println!("| {size} bytes, text of {} | {:.1} | {:.1} | {:.1} |", h.text.len(), t.rust, t.desk, 1.0 / t.ratio);
+    }
+}
+
+fn cells(strings: usize) -> Table {
+    Table::new((0..strings).map(|n| format!("cell {n}")).collect())
+}
+
 /// The Rust makes a map of the table first and then looks up; the desk searches.
 fn lookups() {
     heading("Looking up one text, the Rust's map being made in the call");
@@ -203,7 +293,7 @@ fn lookups() {
     }
 }
 
-/// All tables, or those of one part: decoding, encoding, listing, lookup.
+/// All tables, or those of one part: decoding, encoding, listing, assembling, lookup.
 pub fn run(part: &str) {
     let mut r = Random::new(3);
     let sheets = [(4, sheets::of_document()), (256, sheets::random(&mut r, 256, 256, 4))];
@@ -220,6 +310,14 @@ pub fn run(part: &str) {
     if wanted("listing") {
         listings(&sheets, 16);
         listings(&sheets, 65536);
+    }
+    if wanted("assembling") {
+        for strings in [16, 65_536] {
+            assembling(&sheets, strings, true);
+            assembling(&sheets, strings, false);
+        }
+        large_tables();
+        stack::run();
     }
     if wanted("lookup") {
         lookups();

@@ -16,6 +16,7 @@ mod random;
 mod replay;
 mod rust;
 mod sheets;
+mod stack;
 mod tally;
 mod texts;
 

@@ -266,6 +266,27 @@ fn large_tables() {
     }
 }
 
+/// Labels whose digits are past u32, which alone are looked up, with their entries lent and with none (19).
+fn looked_up() {
+    heading("Assembling with labels that are looked up");
+    let sheet = Sheet::new(vec![Op { code: 0, name: "One".to_string(), jump: true, types: vec![9] }]);
+    for (count, lent) in [(100, 100), (1000, 1000), (100, 0), (1000, 0)] {
+        let lines = (0..count).map(|n| format!("L9999999{n:07}:\nOne L9999999{:07}\n", (n * 7919) % count));
+        let text: String = lines.collect();
+        let (mut out, mut labels) = (vec![0u8; 5 * count], vec![[0u32; 3]; lent]);
+        let t = both(
+            || {
+                let list = parse_hasm_function(&text, &sheet.format, &HashMap::new()).unwrap();
+                black_box(encode_function_body(&sheet.format, &list).unwrap());
+            },
+            || {
+                black_box(desk::assemble(&sheet.text, &[], &[], text.as_bytes(), &mut out, &mut labels));
+            },
+        );
+        row(&format!("{count} labels, {lent} entries lent, text of {}", text.len()), &t);
+    }
+}
+
 fn cells(strings: usize) -> Table {
     Table::new((0..strings).map(|n| format!("cell {n}")).collect())
 }
@@ -317,6 +338,7 @@ pub fn run(part: &str) {
             assembling(&sheets, strings, false);
         }
         large_tables();
+        looked_up();
         stack::run();
     }
     if wanted("lookup") {

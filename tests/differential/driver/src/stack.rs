@@ -1,9 +1,9 @@
 // How much stack the desk uses: a thread's stack is filled with a mark below the caller, and searched after the call.
 
 use crate::assemble::Table;
-use crate::desk;
-use crate::rust::success;
-use crate::sheets::{self, Sheet};
+use crate::desk::{self, Answer};
+use crate::rust::{refusal, success};
+use crate::sheets;
 
 const MARK: u8 = 0xd7;
 const SPACE: usize = 64 << 20;
@@ -29,22 +29,24 @@ fn quotes() -> String {
     "\"".repeat(4096 - 15)
 }
 
-/// A text of the largest size whose result is of the largest size: labels, texts of the largest table, lines of quotes at
-/// the limit.
+/// A text of the largest size whose result is of the largest size: labels, the last of which is looked up, texts of the
+/// largest table, lines of quotes at the limit.
 fn largest() -> String {
     let mut text = String::new();
     for n in 0..8190 {
         let s = if n % 80 == 0 { quotes() } else { format!("s{}", 65_534 - n) };
-        text += &format!("L:\nLoadText r1, \"{s}\"\nJmp L{}\nRet r1\n", 8 * n + 4);
+        let target = if n == 8189 { String::new() } else { format!("{}", 8 * n + 4) };
+        text += &format!("L:\nLoadText r1, \"{s}\"\nJmp L{target}\nRet r1\n");
     }
     text += &"Ret r1\n".repeat(8);
     let rest = 1_048_576 - text.len();
     text + &"\n".repeat(rest)
 }
 
-fn measured(what: &str, sheet: &Sheet, table: &Table, text: &str, length: usize) {
-    let labels = text.lines().filter(|l| l.ends_with(':')).count();
-    let (mut out, mut entries) = (vec![0u8; length], vec![[0u32; 3]; labels]);
+/// The stack of one call that lends so many bytes and label entries, and what it answers.
+fn measured(what: &str, table: &Table, text: &str, room: usize, lent: usize, expected: Answer) {
+    let sheet = sheets::of_document();
+    let (mut out, mut entries) = (vec![0u8; room], vec![[0u32; 3]; lent]);
     let mut answer = success(0);
     let work = || {
         used_by(|| {
@@ -53,17 +55,17 @@ fn measured(what: &str, sheet: &Sheet, table: &Table, text: &str, length: usize)
     };
     let thread = std::thread::Builder::new().stack_size(SPACE);
     let used = std::thread::scope(|s| thread.spawn_scoped(s, work).unwrap().join().unwrap());
-    assert!(answer == success(length), "{answer:?}");
-    println!("| {what} | {} | {} | {} | {used} |", text.len(), table.strings.len(), out.len());
+    assert!(answer == expected, "{answer:?}");
+    println!("| {what} | {} | {} | {room} | {used} |", text.len(), table.strings.len());
 }
 
 pub fn run() {
     println!("\nStack of desk_assemble, by the bytes it leaves changed below its caller\n");
-    println!("| | text | strings | result | stack, bytes |\n|---|---|---|---|---|");
-    let sheet = sheets::of_document();
-    let many = Table::new((0..65_535).map(|n| format!("s{n}")).chain([quotes()]).collect());
+    println!("| | text | strings | lent bytes | stack, bytes |\n|---|---|---|---|---|");
     let none = Table::new(Vec::new());
-    measured("nothing", &sheet, &none, "", 0);
-    measured("one line", &sheet, &none, "Ret r1\n", 2);
-    measured("at the limits", &sheet, &many, &largest(), 65_536);
+    let many = Table::new((0..65_535).map(|n| format!("s{n}")).chain([quotes()]).collect());
+    measured("nothing", &none, "", 0, 0, success(0));
+    measured("one line", &none, "Ret r1\n", 2, 0, success(2));
+    measured("at the limits", &many, &largest(), 65_536, 8190, success(65_536));
+    measured("at the limits, no label entries", &many, &largest(), 65_536, 0, refusal(19, 0, 0));
 }

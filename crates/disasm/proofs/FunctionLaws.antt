@@ -14,9 +14,9 @@ use Rattle.spec_listing.specs.Edition.{Edition, Options}
 use Rattle.spec_listing.specs.Listing.{listDecoded}
 use Rattle.spec_listing.specs.Module.{Area}
 use Rattle.spec_listing.specs.Operation.{listOutcome, underInputs, listFunction}
-use Rattle.disasm.specs.Answers.{Ended}
+use Rattle.spec_answers.specs.Report.{Report}
+use Rattle.endings.specs.Ends.{Ended}
 use Rattle.disasm.specs.Functions.{areaOf, functionUnder}
-use Rattle.disasm.specs.declared.answer.ListAnswer.{ListAnswer}
 
 -- a part is not longer than asked
 pub part-size : {t : List ℕ} (s : List ℕ) (at n : ℕ) → t ≡ part s at n → n ≤ 65536 → length t ≤ 65536
@@ -35,7 +35,7 @@ module _ (o : Options) (functions area : List ℕ) (base id lent : ℕ) (e : Edi
   unfolding functionUnder
   function-large h k = rw (h, lt-ltb 65536 (sizeOf functions id) k)
 
-  pub function-body : {body before after : List ℕ} {r : ListAnswer} → inArea functions area base id ≡ true → sizeOf functions id ≤ 65536 → body ≡ bodyOf functions area base id
+  pub function-body : {body before after : List ℕ} {r : Report} → inArea functions area base id ≡ true → sizeOf functions id ≤ 65536 → body ≡ bodyOf functions area base id
       → Ended (listOutcome lent (listDecoded o e [] (decodeBody (e .types) last body))) before after r → Ended (functionUnder o (areaOf functions area base) id lent e last) before after r
   unfolding functionUnder
   function-body h k b w = rw (h, le-ltb 65536 (sizeOf functions id) k) (rw b at w)

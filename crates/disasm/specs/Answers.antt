@@ -1,10 +1,9 @@
--- What listing answers, and what it leaves in the lent output. Assumes nothing.
-use mathlib.Core.Path.{_≡_}
+-- What listing answers. Assumes nothing.
 use mathlib.Core.List.{List}
 use Prim.Native.Nat.{ℕ}
-use lib.ListN.{length}
 use Rattle.spec_answers.specs.Report.{Report, refusal, success}
-use Rattle.spec_body.specs.Operation.{Outcome, report, exitOf}
+use Rattle.spec_body.specs.Operation.{Outcome}
+use Rattle.endings.specs.Ends as endings
 use Rattle.disasm.specs.declared.answer.ListAnswer.{ListAnswer}
 use Rattle.disasm.specs.declared.answer.ListAnswer.the-variants.{Done, Malformed, Long, Beyond, Cut, Fault, TooLarge, Short, NoFunction}
 
@@ -21,6 +20,5 @@ listReport Short = refusal 19 0 0
 listReport (NoFunction id) = refusal 20 id 0
 
 -- an outcome is told, and the lent output, which was `before`, is as it says
-pub record Ended (x : Outcome) (before after : List ℕ) (r : ListAnswer) : Type 0 where
-  pub answer-is : listReport r ≡ report x (length before)
-  pub output-is : after ≡ exitOf x before
+abbrev pub Ended : Outcome → List ℕ → List ℕ → ListAnswer → Type 0
+Ended x before after r = endings.Ended x before after (listReport r)

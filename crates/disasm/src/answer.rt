@@ -10,6 +10,7 @@ ghost use Rattle.spec_listing.specs.Listing.Listed.{listed};
 ghost use Rattle.spec_listing.specs.Operation.{listOutcome};
 ghost use Rattle.listing.specs.Bodies.{Written};
 ghost use Rattle.disasm.specs.Answers.{Ended};
+use endings::Measured;
 use listing::body::Part;
 use slices::write::clear;
 
@@ -30,19 +31,12 @@ pub enum ListAnswer {
 pub fn measure(k: usize, entries: usize, lent: usize, out: &mut [u8]) -> ListAnswer
     ensures { λ r. ⌜ ((t before : List ℕ) → Put before 0 t (now (out .entry)) k → Ended (listOutcome lent (listed t entries)) before (now (out .exit)) r) ⌝ }
 {
-    if 1048576 < k {
-        clear(out);
-        return ListAnswer::TooLarge;
+    let m = endings::measure(k, 1048576, entries, lent, out);
+    match m {
+        Measured::Fits => ListAnswer::Done(k),
+        Measured::TooLarge => ListAnswer::TooLarge,
+        Measured::Short => ListAnswer::Short,
     }
-    if lent < entries {
-        clear(out);
-        return ListAnswer::Short;
-    }
-    if out.len() < k {
-        clear(out);
-        return ListAnswer::Short;
-    }
-    ListAnswer::Done(k)
 }
 
 // The end of a listing that was written from the front of `out`, where `lent` label entries are lent.

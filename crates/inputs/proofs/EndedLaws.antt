@@ -53,7 +53,7 @@ module _ {text bytes ends : List ℕ} {types ops : List (List ℕ)} where
   few-strings (refused n p l k q) = absurd (let z : 0 ≡ n = ap (λ (x : Report). x .number) q in omega arith)
 
 -- the number of the first variant, 0, is no other variant's
-no-tag : {P : Type 0} (n : ℕ) → (P → ⊥) → (0 ≡ suc n) ⊎ P → ⊥
+pub no-tag : {P : Type 0} (n : ℕ) → (P → ⊥) → (0 ≡ suc n) ⊎ P → ⊥
 no-tag n f t = ⊎-elim (λ e. omega arith) f t
 
 pub not-ready : OneOf (1 ∷ 2 ∷ 3 ∷ []) 0 → ⊥

@@ -6,21 +6,21 @@ use native.Mathlib.Omega.{arith}
 use lib.ListN.{length, replicate}
 use borrow.Author.Tests.{lt-ltb}
 use Rattle.lists.specs.Write.{Put}
-use Rattle.spec_answers.specs.Report.{refusal}
+use Rattle.spec_answers.specs.Report.{Report, refusal}
 use Rattle.spec_body.specs.Operation.{Outcome}
 use Rattle.spec_listing.specs.Edition.{Edition, Options}
 use Rattle.spec_listing.specs.Listing.{Listed}
 use Rattle.spec_listing.specs.Listing.Listed.{listed, refused}
 use Rattle.spec_listing.specs.Module.{Area, listAll}
 use Rattle.spec_listing.specs.Operation.{listOutcome, underInputs, listModule}
-use Rattle.disasm.specs.Answers.{listReport, Ended}
+use Rattle.endings.specs.Ends.{Ended}
+use Rattle.disasm.specs.Answers.{listReport}
 use Rattle.modules.specs.Modules.{partRefusal, ModuleWritten}
 use Rattle.modules.specs.Modules.ModuleWritten.{within, over, ended}
-use Rattle.disasm.specs.declared.answer.ListAnswer.{ListAnswer}
 use Rattle.disasm.specs.declared.answer.ListAnswer.the-variants.{TooLarge}
 use Rattle.modules.specs.declared.module_part.FunctionPart.{FunctionPart}
 use Rattle.modules.specs.declared.module_part.FunctionPart.the-variants as part
-use Rattle.disasm.proofs.EndLaws.{refused-end, cleared}
+use Rattle.endings.proofs.EndLaws.{refused-end, cleared}
 
 -- the number and place of a refusal are told
 pub part-told : {x : Listed} {m at n place : ℕ} → x ≡ refused m at 0 → x ≡ refused n place 0 → refusal m at 0 ≡ refusal n place 0
@@ -36,22 +36,22 @@ no-refusal p e q = absurd (let z : _≡_ {A = ℕ} 0 1 = cc (sym (ap partRefusal
 
 module _ (lent : ℕ) {x : Listed} {before now after : List ℕ} {p : FunctionPart} where
   -- a function is refused
-  pub refused-module : {r : ListAnswer} → ModuleWritten x before now p → ((k n : ℕ) → p ≡ part.Listed k n → ⊥)
-      → ((n place : ℕ) → partRefusal p ≡ refused n place 0 → listReport r ≡ refusal n place 0) → after ≡ replicate (length now) 0 → Ended (listOutcome lent x) before after r
+  pub refused-module : {r : Report} → ModuleWritten x before now p → ((k n : ℕ) → p ≡ part.Listed k n → ⊥)
+      → ((n place : ℕ) → partRefusal p ≡ refused n place 0 → r ≡ refusal n place 0) → after ≡ replicate (length now) 0 → Ended (listOutcome lent x) before after r
   unfolding listOutcome
   refused-module (within t k n e q l w) h f z = absurd (h k n q)
   refused-module (over t n e q g l) h f z = absurd (h 1048577 n q)
-  refused-module {r} (ended n place e q l) h f z = refused-end _ r n place 0 before after (rw e) (f n place q) (cleared now before after l z)
+  refused-module (ended n place e q l) h f z = refused-end _ _ n place 0 before after (rw e) (f n place q) (cleared now before after l z)
 
   -- the whole is over the limit, and not over it
-  pub over-module : {k n : ℕ} → ModuleWritten x before now p → p ≡ part.Listed k n → 1048576 < k → after ≡ replicate (length now) 0 → Ended (listOutcome lent x) before after TooLarge
+  pub over-module : {k n : ℕ} → ModuleWritten x before now p → p ≡ part.Listed k n → 1048576 < k → after ≡ replicate (length now) 0 → Ended (listOutcome lent x) before after (listReport TooLarge)
   unfolding listOutcome listReport
   over-module {k} (within t k′ n′ e q l w) d h z =
       absurd (let same-end : k′ ≡ k = cc (sym q ∙ d) in omega arith)
-  over-module (over t n′ e q g l) d h z = refused-end _ TooLarge 18 0 0 before after (rw (e, lt-ltb 1048576 (length t) g)) refl (cleared now before after l z)
+  over-module (over t n′ e q g l) d h z = refused-end _ _ 18 0 0 before after (rw (e, lt-ltb 1048576 (length t) g)) refl (cleared now before after l z)
   over-module (ended m place e q l) d h z = absurd (no-refusal p d q)
 
-  pub within-module : {k n : ℕ} {r : ListAnswer} → ModuleWritten x before now p → p ≡ part.Listed k n → k ≤ 1048576
+  pub within-module : {k n : ℕ} {r : Report} → ModuleWritten x before now p → p ≡ part.Listed k n → k ≤ 1048576
       → ((t before : List ℕ) → Put before 0 t now k → Ended (listOutcome lent (listed t n)) before after r) → Ended (listOutcome lent x) before after r
   within-module {k} {n} (within t k′ n′ e q l w) d h f =
       let same-end : k′ ≡ k = cc (sym q ∙ d) in

@@ -22,7 +22,7 @@ use Rattle.modules.specs.Modules.PartWritten.{complete, broken}
 use Rattle.modules.specs.Modules.ModuleWritten.{within, over, ended}
 use Rattle.modules.specs.declared.module_part.FunctionPart.{FunctionPart}
 use Rattle.modules.specs.declared.module_part.FunctionPart.the-variants as part
-use Rattle.disasm.proofs.OperationLaws.{no-tag}
+use Rattle.inputs.proofs.EndedLaws.{no-tag}
 
 -- the number of `Listed` is none of the others
 pub not-listed : OneOf (1 ∷ 2 ∷ 3 ∷ 4 ∷ 5 ∷ 6 ∷ []) 0 → ⊥

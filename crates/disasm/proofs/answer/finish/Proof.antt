@@ -41,21 +41,21 @@ same-length-2 c = search needs
 
 returns-2 : tie.Need-returns-2
 unfolding refusalOf listReport
-returns-2 c = λ x before w. refused-body _ 13 _ _ _ w (ap refusalOf (c .before .before .before .before .before .p2 .given .1)) refl (c .before .before .clear .ensures)
+returns-2 c = λ x before w. refused-body _ 13 _ _ w (ap refusalOf (c .before .before .before .before .before .p2 .given .1)) refl (c .before .before .clear .ensures)
 
 same-length-3 : tie.Need-same-length-3
 same-length-3 c = search needs
 
 returns-3 : tie.Need-returns-3
 unfolding refusalOf listReport
-returns-3 c = λ x before w. refused-body _ 14 _ _ _ w (ap refusalOf (c .before .before .before .before .before .p3 .given .1)) refl (c .before .before .clear2 .ensures)
+returns-3 c = λ x before w. refused-body _ 14 _ _ w (ap refusalOf (c .before .before .before .before .before .p3 .given .1)) refl (c .before .before .clear2 .ensures)
 
 same-length-4 : tie.Need-same-length-4
 same-length-4 c = search needs
 
 returns-4 : tie.Need-returns-4
 unfolding refusalOf listReport
-returns-4 c = λ x before w. refused-body _ 3 _ _ _ w (ap refusalOf (c .before .before .before .before .before .p4 .given .1)) refl (c .before .before .clear3 .ensures)
+returns-4 c = λ x before w. refused-body _ 3 _ _ w (ap refusalOf (c .before .before .before .before .before .p4 .given .1)) refl (c .before .before .clear3 .ensures)
 
 pub finish-spec : {M : Type 1} → statement M
 finish-spec =

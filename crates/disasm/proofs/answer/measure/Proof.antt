@@ -1,49 +1,55 @@
-use Rattle.disasm.proofs.EndLaws.{too-long, few-entries, short, done}
+use Rattle.disasm.proofs.EndLaws.{measured-listing}
+use Rattle.disasm.specs.Answers.{listReport}
+use Rattle.endings.specs.Ends.{measuredReport}
+use mathlib.Core.Path.{refl}
 use borrow.Author.Needs.{needs}
 use Rattle.disasm.proofs.answer.measure.Statement.{statement}
 use Rattle.disasm.proofs.answer.measure.Tie as tie
 
-clear-requires : tie.Need-clear-requires
-clear-requires c κs = search needs
+measure-requires : tie.Need-measure-requires
+measure-requires c κs = search needs
+
+enum-told : tie.Need-enum-told
+enum-told c = search needs
+
+enum-told-2 : tie.Need-enum-told-2
+enum-told-2 c = search needs
+
+enum-told-3 : tie.Need-enum-told-3
+enum-told-3 c = search needs
 
 same-length : tie.Need-same-length
 same-length c = search needs
 
 returns : tie.Need-returns
-returns c = λ t before w. too-long t before _ _ _ _ w _ (c .before .before .before .before .if1 .taken) (c .before .before .clear .ensures)
-
-clear-requires-2 : tie.Need-clear-requires-2
-clear-requires-2 c κs = search needs
+unfolding listReport measuredReport
+returns c = λ t before w. measured-listing _ _ (c .before .before .before .before .before .before .before .args .k) t _ (c .enum-told .given .1) refl (c .before .before .before .before .measure .ensures t before w)
 
 same-length-2 : tie.Need-same-length-2
 same-length-2 c = search needs
 
 returns-2 : tie.Need-returns-2
-returns-2 c = λ t before w. few-entries t before _ _ _ _ w (c .before .before .before .before .before .if1 .left) _ (c .before .before .before .before .if2 .taken) (c .before .before .clear2 .ensures)
-
-clear-requires-3 : tie.Need-clear-requires-3
-clear-requires-3 c κs = search needs
+unfolding listReport measuredReport
+returns-2 c = λ t before w. measured-listing _ _ (c .before .before .before .before .before .before .before .args .k) t _ (c .enum-told2 .given .1) refl (c .before .before .before .before .measure .ensures t before w)
 
 same-length-3 : tie.Need-same-length-3
 same-length-3 c = search needs
 
 returns-3 : tie.Need-returns-3
-returns-3 c = λ t before w. short t before _ _ _ _ w (c .before .before .before .before .before .before .if1 .left) (c .before .before .before .before .before .if2 .left) _ (c .before .before .before .before .if3 .taken) (c .before .before .clear3 .ensures)
-
-returns-4 : tie.Need-returns-4
-returns-4 c = λ t before w. done t before _ _ _ _ w (c .before .before .if1 .left) (c .before .if2 .left) (c .if3 .left)
+unfolding listReport measuredReport
+returns-3 c = λ t before w. measured-listing _ _ (c .before .before .before .before .before .before .before .args .k) t _ (c .enum-told3 .given .1) refl (c .before .before .before .before .measure .ensures t before w)
 
 pub measure-spec : {M : Type 1} → statement M
 measure-spec =
     tie.close
     (tie.spec
-    clear-requires
+    measure-requires
+    enum-told
+    enum-told-2
+    enum-told-3
     same-length
     returns
-    clear-requires-2
     same-length-2
     returns-2
-    clear-requires-3
     same-length-3
-    returns-3
-    returns-4)
+    returns-3)

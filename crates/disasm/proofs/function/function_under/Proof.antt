@@ -9,7 +9,7 @@ use Rattle.listing.specs.Parts.{optionsOf, editionOf}
 use Rattle.spec_body.specs.Function.{inArea}
 use Rattle.decode.proofs.DecodeCases.{triple, inside-base}
 use Rattle.disasm.specs.Answers.{listReport}
-use Rattle.disasm.proofs.EndLaws.{refused-end}
+use Rattle.endings.proofs.EndLaws.{refused-end}
 use Rattle.disasm.proofs.FunctionLaws.{part-size, function-none, function-large, function-body}
 use borrow.Author.Needs.{needs}
 use Rattle.disasm.proofs.function.function_under.Statement.{statement}

@@ -2,7 +2,7 @@ use mathlib.Core.Path.{sym}
 use Rattle.listing.specs.Parts.{optionsOf}
 use Rattle.disasm.specs.Functions.{areaOf, functionUnder}
 use Rattle.disasm.proofs.FunctionLaws.{function-is}
-use Rattle.disasm.proofs.OperationLaws.{read-on, refused-on, not-ready}
+use Rattle.inputs.proofs.EndedLaws.{read-on, refused-on, not-ready}
 use borrow.Author.Needs.{needs}
 use Rattle.disasm.proofs.function.list_function.Statement.{statement}
 use Rattle.disasm.proofs.function.list_function.Tie as tie

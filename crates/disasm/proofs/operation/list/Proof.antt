@@ -1,5 +1,6 @@
-use Rattle.disasm.proofs.OperationLaws.{read-on, refused-on, list-large, list-small, bodyUnder, not-ready}
-use Rattle.disasm.proofs.EndLaws.{refused-end}
+use Rattle.inputs.proofs.EndedLaws.{read-on, refused-on, not-ready}
+use Rattle.disasm.proofs.OperationLaws.{list-large, list-small, bodyUnder}
+use Rattle.endings.proofs.EndLaws.{refused-end}
 use Rattle.disasm.specs.Answers.{listReport}
 use Rattle.listing.specs.Parts.{optionsOf}
 use mathlib.Core.Path.{refl, sym}

@@ -1,4 +1,4 @@
-use Rattle.disasm.proofs.OperationLaws.{read-on, refused-on, not-ready}
+use Rattle.inputs.proofs.EndedLaws.{read-on, refused-on, not-ready}
 use Rattle.modules.proofs.ModuleEnd.{moduleUnder, module-is}
 use Rattle.disasm.specs.Functions.{areaOf}
 use Rattle.listing.specs.Parts.{optionsOf}

@@ -7,9 +7,9 @@ fn job_space() -> [u8; 65537] {
     [0; 65537]
 }
 
-// The output that the program lends.
-fn text_space() -> [u8; 65536] {
-    [0; 65536]
+// Room for all that a job may print: `body=`, two digits for each of the 65,536 output bytes that it is lent, and LF.
+fn text_space() -> [u8; 131078] {
+    [0; 131078]
 }
 
 fn main() {

@@ -1,2 +1,7 @@
-pub mod AnswerLaws
+pub mod InputLaws
+pub mod PrintLaws
+pub mod ReadLaws
+pub mod SoundLaws
+pub mod ListLaws
+pub mod AssembleLaws
 pub mod RunLaws

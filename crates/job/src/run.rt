@@ -1,49 +1,86 @@
 // A job's bytes in, the printed bytes out: all that the program does but reading and writing.
 ghost use mathlib.Core.Path.{_≡_};
 ghost use Prim.Native.Nat.{_≤_};
-ghost use lib.ListN.{length};
-ghost use Rattle.lists.specs.Write.{Put};
+ghost use lib.ListN.{length, replicate};
+ghost use Rattle.lists.specs.Choice.{pick};
 ghost use Rattle.spec_answers.specs.Report.{written, zeros};
-ghost use Rattle.spec_job.specs.Printed.{refusedText};
-ghost use Rattle.disasm.specs.Answers.{listReport};
-ghost use Rattle.job.specs.Run.{Told, runText};
-use disasm::answer::ListAnswer;
+ghost use Rattle.spec_job.specs.Job.{readList, readAssemble};
+ghost use Rattle.spec_job.specs.Printed.{printedJob};
+ghost use Rattle.job.specs.Run.{Prints, runText};
+use crate::print::refused;
+use job_reader::reader::Asked;
+use job_reader::reader::EditionAnswer;
 use slices::write::clear;
 
-fn refused(out: &mut [u8], number: u64, place: usize) -> usize
-    ensures { λ r. ⌜ Put (now (out .entry)) 0 (refusedText number place 0) (now (out .exit)) r ⌝ }
-{
-    crate::print::put_refused(out, 0, number, place as u64, 0)
+// Space for a job's strings: two digits make a byte, so that half of the job's limit is enough. No contract, since the
+// reader says what it leaves.
+fn string_space() -> [u8; 32768] {
+    [0; 32768]
 }
 
-// The length of a listing, which stands in `out` already, or the line that a refusal prints.
-fn put_answer(a: ListAnswer, out: &mut [u8]) -> usize
-    ensures { λ r. ⌜ Told (listReport a) (now (out .entry)) (now (out .exit)) r ⌝ }
+fn end_space() -> [u32; 4096] {
+    [0; 4096]
+}
+
+// Prints a job whose edition stands at `start`, behind the line that says what it asks for: a listing, or else a body.
+fn print_job(lists: bool, job: &[u8], start: usize, text: &mut [u8]) -> usize
+    requires { ⌜ (length (now job) ≤ 65536) × (65536 ≤ length (now text)) × (now text ≡ replicate (length (now text)) 0) ⌝ }
+    ensures { λ r. ⌜ Prints (printedJob (now (job .entry)) (pick lists (readList (now (job .entry)) start) (readAssemble (now (job .entry)) start))) (now (text .entry)) (now (text .exit)) r ⌝ }
 {
-    match a {
-        ListAnswer::Done(n) => n,
-        ListAnswer::Malformed(line) => refused(out, 1, line),
-        ListAnswer::Long(place) => refused(out, 3, place),
-        ListAnswer::Beyond(at) => refused(out, 13, at),
-        ListAnswer::Cut(at) => refused(out, 14, at),
-        ListAnswer::Fault(id) => refused(out, 17, id),
-        ListAnswer::TooLarge => refused(out, 18, 0),
-        ListAnswer::Short => refused(out, 19, 0),
-        ListAnswer::NoFunction(id) => refused(out, 20, id),
+    let mut types = [[0u8; 8]; 256];
+    let mut ops = [[0usize; 4]; 256];
+    let mut bytes = string_space();
+    let mut ends = end_space();
+    let e = job_reader::reader::edition_at(
+        job,
+        start,
+        2,
+        &mut types,
+        &mut ops,
+        &mut bytes,
+        &mut ends,
+    );
+    match e {
+        EditionAnswer::Read(at, line, above, count, size) => {
+            let texts = &bytes[0..size];
+            let marks = &ends[0..count];
+            if lists {
+                crate::list_job::print_list(job, at, line, &types, &ops, above, texts, marks, text)
+            } else {
+                crate::assemble_job::print_assembled(
+                    job,
+                    at,
+                    line,
+                    &types,
+                    &ops,
+                    texts,
+                    marks,
+                    text,
+                )
+            }
+        }
+        EditionAnswer::BadLine(bad) => refused(text, 1, bad),
     }
 }
 
-// Writes what the program prints for a job to the front of `text`, over zeros, and answers its length. A `text` shorter
-// than the output that the program lends gets nothing.
+// Writes what the program prints for a job to the front of `text`, over zeros, and answers its length. A `text` that has no
+// room for all that a job may print gets nothing.
 pub fn run(job: &[u8], text: &mut [u8]) -> usize
     ensures { λ r. ⌜ r ≡ length (runText (now (job .entry)) (length (now (text .entry)))) ⌝ }
     ensures { λ _. ⌜ now (text .exit) ≡ written (runText (now (job .entry)) (length (now (text .entry)))) (zeros (now (text .entry))) ⌝ }
     ensures { λ r. ⌜ r ≤ length (now (text .exit)) ⌝ }
 {
     clear(text);
-    if text.len() < 65536 {
+    if text.len() < 131078 {
         return 0;
     }
-    let a = crate::answer::answer(job, &mut text[0..65536]);
-    put_answer(a, text)
+    if 65536 < job.len() {
+        return refused(text, 18, 0);
+    }
+    let w = job_reader::reader::which_job(job);
+    match w {
+        Asked::List => print_job(true, job, 9, text),
+        Asked::Assemble => print_job(false, job, 13, text),
+        Asked::Other => refused(text, 1, 1),
+    }
 }

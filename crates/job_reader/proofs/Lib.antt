@@ -4,3 +4,4 @@ pub mod StringsLoop
 pub mod TableAnswerLaws
 pub mod EditionLaws
 pub mod BodyLaws
+pub mod AskedLaws

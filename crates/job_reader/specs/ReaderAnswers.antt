@@ -3,6 +3,9 @@ use mathlib.Core.Path.{_≡_}
 use mathlib.Core.List.{List}
 use Prim.Native.Nat.{ℕ}
 use lib.ListN.{length}
+use Rattle.lists.specs.Choice.{pick}
+use Rattle.lists.specs.Scan.{opens}
+use Rattle.lists.specs.Text.{text}
 use Rattle.spec_sheet.specs.Scan.{Step}
 use Rattle.spec_sheet.specs.Scan.Step.{next, off}
 use Rattle.spec_sheet.specs.Sheet.{typeRows, infoRows, above}
@@ -10,12 +13,18 @@ use Rattle.spec_job.specs.Job.{Edition, EditionRead, JobRead}
 use Rattle.spec_job.specs.Job.EditionRead.{edition, badEdition}
 use Rattle.spec_job.specs.Job.JobRead.{badLine}
 use Rattle.job_reader.specs.TableAnswers.{Opens}
+use Rattle.job_reader.specs.declared.reader.Asked.{Asked}
+use Rattle.job_reader.specs.declared.reader.Asked.the-variants as jobs
 use Rattle.job_reader.specs.declared.reader.EditionAnswer.{EditionAnswer}
 use Rattle.job_reader.specs.declared.reader.EditionAnswer.the-variants as editions
 use Rattle.job_reader.specs.declared.reader.BodyAnswer.{BodyAnswer}
 use Rattle.job_reader.specs.declared.reader.BodyAnswer.the-variants as bodies
 use Rattle.job_reader.specs.declared.reader.TextAnswer.{TextAnswer}
 use Rattle.job_reader.specs.declared.reader.TextAnswer.the-variants as texts
+
+-- a job's first line says which it is
+unfoldable pub asked : List ℕ → Asked
+asked s = pick (opens (text "job=list\n") s) jobs.List (pick (opens (text "job=assemble\n") s) jobs.Assemble jobs.Other)
 
 -- what the lent arrays hold of an edition: both tables by opcode, its strings' bytes and their ends
 pub record Holds (e : Edition) (types infos : List (List ℕ)) (bytes ends : List ℕ) : Type 0 where

@@ -2,25 +2,32 @@
 ghost use mathlib.Core.Path.{_≡_};
 ghost use Prim.Native.Nat.{_≤_};
 ghost use lib.ListN.{length};
-ghost use Rattle.lists.specs.Scan.{opens};
 ghost use Rattle.lists.specs.Text.{text};
 ghost use Rattle.spec_sheet.specs.Scan.{literalAt};
 ghost use Rattle.spec_job.specs.Job.{editionAt, withBody};
-ghost use Rattle.job_reader.specs.ReaderAnswers.{EditionIn, BodyIn, textAnswer};
+ghost use Rattle.job_reader.specs.ReaderAnswers.{asked, EditionIn, BodyIn, textAnswer};
 use crate::hex::HexLine;
 use crate::table::TableAnswer;
 use sheet::opcode::Sheet;
 use sheet_line::scan::Step;
 
-// Whether the job asks for a listing.
-pub fn is_list(s: &[u8]) -> bool
-    ensures { λ r. ⌜ r ≡ opens (text "job=list\n") (now (s .entry)) ⌝ }
+// What a job asks for by its first line.
+pub enum Asked {
+    List,
+    Assemble,
+    Other,
+}
+
+pub fn which_job(s: &[u8]) -> Asked
+    ensures { λ r. ⌜ r ≡ asked (now (s .entry)) ⌝ }
 {
-    let l = sheet_line::scan::literal_at(s, 0, b"job=list\n");
-    match l {
-        Step::Next(_, _) => true,
-        Step::Off => false,
+    if slices::compare::opens_at(s, 0, b"job=list\n") {
+        return Asked::List;
     }
+    if slices::compare::opens_at(s, 0, b"job=assemble\n") {
+        return Asked::Assemble;
+    }
+    Asked::Other
 }
 
 // An edition that was read: the place behind it and the number of the line there, one more than its largest opcode, how

@@ -98,14 +98,18 @@ fn tell(o: Outcome) {
     }
 }
 
-// Room for a job, and for the text that it prints. No contract: the type says the length.
-fn space() -> [u8; 65536] {
+// Room for a job, and for all that it may print. No contract: the types say the lengths.
+fn job_space() -> [u8; 65536] {
     [0; 65536]
 }
 
+fn text_space() -> [u8; 131078] {
+    [0; 131078]
+}
+
 fn main() {
-    let mut job = space();
-    let mut expected = space();
-    let mut text = space();
+    let mut job = job_space();
+    let mut expected = text_space();
+    let mut text = text_space();
     tell(replay(&mut job, &mut expected, &mut text));
 }

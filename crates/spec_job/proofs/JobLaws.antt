@@ -21,9 +21,9 @@ use Rattle.spec_job.specs.Hex.{HexRead}
 use Rattle.spec_job.specs.Hex.HexRead.{hex, noHex}
 use Rattle.spec_job.specs.Table.{TableRead, onHex, keyedHexAt, stringsLimit, tableAt}
 use Rattle.spec_job.specs.Table.TableRead.{table, faultAfter}
-use Rattle.spec_job.specs.Job.{Edition, JobRead, withTable, withSheet, editionAt, onEdition, withBody, readList, readWord, readJob}
+use Rattle.spec_job.specs.Job.{Edition, JobRead, withTable, withSheet, editionAt, onEdition, withBody, withText, readList, readAssemble, readWord, readJob}
 use Rattle.spec_job.specs.Job.EditionRead.{edition, badEdition}
-use Rattle.spec_job.specs.Job.JobRead.{badLine, listJob}
+use Rattle.spec_job.specs.Job.JobRead.{badLine, listJob, assembleJob}
 use Rattle.spec_job.proofs.TableLaws.{table-size, keyed-spread}
 
 -- a sheet's malformed line is one of its first 258
@@ -144,16 +144,22 @@ body-size s at line bs f = go (keyedHexAt (text "body=") s at) refl
     go (hex cs b) q = read cs b q (eqb b (length s)) refl
     go noHex q = never line (omega arith) (body-off s at line counted q)
 
--- a job by its first line, and one that asks for a listing by its edition
+-- a job by its first line
 module _ (s : List ℕ) where
   pub job-list : opens (text "job=list\n") s ≡ true → readJob s ≡ readList s 9
   unfolding readJob readWord literalAt after text
   job-list e = rw e
 
-  pub job-other : opens (text "job=list\n") s ≡ false → readJob s ≡ badLine 1
-  unfolding readJob readWord literalAt after
-  job-other e = rw e
+  module _ (n : opens (text "job=list\n") s ≡ false) where
+    pub job-assemble : opens (text "job=assemble\n") s ≡ true → readJob s ≡ readAssemble s 13
+    unfolding readJob readWord literalAt after text
+    job-assemble e = rw (n, e)
 
+    pub job-other : opens (text "job=assemble\n") s ≡ false → readJob s ≡ badLine 1
+    unfolding readJob readWord literalAt after
+    job-other e = rw (n, e)
+
+  -- one that asks for a listing by its edition
   pub list-bad : (at line : ℕ) → editionAt s at 2 ≡ badEdition line → readList s at ≡ badLine line
   unfolding readList onEdition
   list-bad at line e = rw e
@@ -161,3 +167,21 @@ module _ (s : List ℕ) where
   pub list-body : (at : ℕ) (e : Edition) (b line : ℕ) → editionAt s at 2 ≡ edition e b line → readList s at ≡ withBody s b line (listJob e)
   unfolding readList onEdition
   list-body at e b line q = rw q
+
+  -- one that asks for assembling likewise
+  pub assemble-bad : (at line : ℕ) → editionAt s at 2 ≡ badEdition line → readAssemble s at ≡ badLine line
+  unfolding readAssemble onEdition
+  assemble-bad at line e = rw e
+
+  pub assemble-text : (at : ℕ) (e : Edition) (b line : ℕ) → editionAt s at 2 ≡ edition e b line → readAssemble s at ≡ withText s b line e
+  unfolding readAssemble onEdition
+  assemble-text at e b line q = rw q
+
+  module _ (at line : ℕ) (e : Edition) where
+    pub text-starts : (v b : ℕ) → literalAt (text "text=\n") s at ≡ next v b → withText s at line e ≡ assembleJob e b
+    unfolding withText after
+    text-starts v b q = rw q
+
+    pub text-off : literalAt (text "text=\n") s at ≡ off → withText s at line e ≡ badLine line
+    unfolding withText after
+    text-off q = rw q

@@ -1,19 +1,19 @@
 -- Jobs and what is printed for them, computed over the definitions. Assumes nothing.
 use mathlib.Core.Path.{_≡_, refl}
 use mathlib.Core.List.{List, _++_}
-use Rattle.lists.specs.Scan.{run, same, opens}
+use Rattle.lists.specs.Scan.{run, all, same, opens}
 use Rattle.lists.specs.Text.{text}
-use Rattle.spec_numbers.specs.LittleEndian.{le}
+use Rattle.spec_numbers.specs.LittleEndian.{le, leBytes}
 use Rattle.spec_numbers.specs.TwosComplement.{extend8}
 use Rattle.spec_numbers.specs.Print.{digit, digits, padded, decimal, signedDecimal, hexLower, hexLower4, hexUpper, hexUpper4}
-use Rattle.spec_numbers.specs.Parse.{digitValue, digitsValue, unsignedValue}
+use Rattle.spec_numbers.specs.Parse.{digitValue, digitsValue, unsignedValue, parseU32In}
 use Rattle.spec_sheet.specs.Types.{typeNames, typeCodeIn, typeCode, widthOf, familyOf, kindOf}
 use Rattle.spec_sheet.specs.Scan.{after, literalAt, isNameByte, numberRead, numberAt, keyedAt, mayBeName, nameAt, typeAt}
 use Rattle.spec_sheet.specs.Line.{withType, typesFrom, typesAt, headAt, lineTypes, lineHead, lineAt, typeRow, infoRow}
 use Rattle.spec_sheet.specs.Sheet.{fill, hasName, findName, isMissing, mayFollow, accepted, onLine, opsFrom, sheetOps, sheetAt, above}
 use Rattle.spec_strings.specs.Utf8.{afterLead, afterNext, step, utf8From, leadBits, bitsAfter, charsFrom}
-use Rattle.spec_strings.specs.Table.{tooLarge, wellFormed, faultFrom}
-use Rattle.spec_strings.specs.Escape.{unicode, escape, escapeAll, escapeText, quoted}
+use Rattle.spec_strings.specs.Table.{tooLarge, wellFormed, faultFrom, lookupFrom}
+use Rattle.spec_strings.specs.Escape.{meant, unescape, unicode, escape, escapeAll, escapeText, quoted}
 use Rattle.spec_body.specs.Record.{sumBy, pairs}
 use Rattle.spec_body.specs.Decode.{prepend, decodeFrom}
 use Rattle.spec_listing.specs.Edition.{nameOf, isJump}
@@ -22,42 +22,52 @@ use Rattle.spec_listing.specs.Line.{offsetText, instructionText}
 use Rattle.spec_listing.specs.Labels.{endsFlow, targets, labelsOf, labelOffsets, among, different}
 use Rattle.spec_listing.specs.Listing.{labelLine, labelText, instructionLine, linesOf, longLine, entriesFor, unlessLong, listDecoded, append}
 use Rattle.spec_listing.specs.Operation.{listOutcome, unlessFault, underTable}
+use Rattle.spec_hasm.specs.Text as hasmText
+use Rattle.spec_hasm.specs.Comment.{isQuote, isComment, outside, inside}
+use Rattle.spec_hasm.specs.Split.{splitOutside, splitInside, tokensFrom, tokens, nameIn, operandsIn}
+use Rattle.spec_hasm.specs.Line.{isSkipped, isLabel, hasHexMark, behindHexMark, isOffset, behindOffset, statementIn}
+use Rattle.spec_hasm.specs.Token as token
+use Rattle.spec_hasm.specs.Assemble as hasm
+use Rattle.spec_hasm.specs.Operation.{assembleOutcome}
 use Prim.Native.Nat.{ℕ}
 use Rattle.spec_job.specs.Hex.{withByte, hexFrom}
 use Rattle.spec_job.specs.Table.{onHex, keyedHexAt, stringsFrom, tableAt}
-use Rattle.spec_job.specs.Job.{withTable, withSheet, onEdition, withBody, readList, readWord, readJob}
-use Rattle.spec_job.specs.Printed.{listEdition, jobRun, jobOutcome, refusedText, printedOf, printed}
+use Rattle.spec_job.specs.Job.{withTable, withSheet, onEdition, withBody, withText, readList, readAssemble, readWord, readJob}
+use Rattle.spec_job.specs.Printed.{listEdition, assembleEdition, jobRun, refusedText, hexOf, bodyText, formOf, printedOf, printed}
 
--- a job with document 01's sheet and strings, and another last line
-unfoldable job : List ℕ → List ℕ
-job lastLine =
-    text "job=list\nversion=1\ncount=4\nop=0 name=LoadByte jump=0 types=Reg8,UInt8\nop=1 name=Jmp jump=1 types=Addr8\nop=2 name=LoadText jump=0 types=Reg8,UInt16S\nop=4 name=Ret jump=0 types=Reg8\nstrings=2\ns=612C62\ns=C3A9\n" ++ lastLine
+-- a job with document 01's sheet and strings, what it asks for and what stands behind the strings
+unfoldable jobOf : List ℕ → List ℕ → List ℕ
+jobOf word last =
+    word ++ text "version=1\ncount=4\nop=0 name=LoadByte jump=0 types=Reg8,UInt8\nop=1 name=Jmp jump=1 types=Addr8\nop=2 name=LoadText jump=0 types=Reg8,UInt16S\nop=4 name=Ret jump=0 types=Reg8\nstrings=2\ns=612C62\ns=C3A9\n" ++ last
+
+abbrev job : List ℕ → List ℕ
+job last = jobOf (text "job=list\n") last
 
 unfoldable prints : List ℕ → List ℕ
-unfolding printed withByte hexFrom onHex keyedHexAt stringsFrom tableAt withTable withSheet onEdition withBody readList readWord readJob listEdition jobRun jobOutcome refusedText printedOf hexUpper hexUpper4 underTable unlessFault listOutcome tooLarge wellFormed faultFrom afterLead afterNext step utf8From leadBits bitsAfter charsFrom unicode escape escapeAll escapeText quoted decodeFrom prepend pairs sumBy le extend8 digit digits padded decimal signedDecimal hexLower hexLower4 widthOf familyOf kindOf sheetAt sheetOps opsFrom onLine accepted mayFollow isMissing findName hasName fill typeRow infoRow lineAt lineHead lineTypes headAt typesAt typesFrom withType typeAt nameAt mayBeName keyedAt numberAt numberRead isNameByte literalAt after typeCode typeCodeIn typeNames unsignedValue digitsValue digitValue run same opens text above nameOf isJump distanceOf targetOf stringText operandText operandTexts offsetText instructionText endsFlow targets labelsOf labelOffsets among different labelLine labelText instructionLine linesOf longLine entriesFor unlessLong listDecoded append
+unfolding printed withByte hexFrom onHex keyedHexAt stringsFrom tableAt withTable withSheet onEdition withBody withText readList readAssemble readWord readJob listEdition assembleEdition jobRun refusedText hexOf bodyText formOf printedOf hexUpper hexUpper4 underTable unlessFault listOutcome tooLarge wellFormed faultFrom afterLead afterNext step utf8From leadBits bitsAfter charsFrom unicode escape escapeAll escapeText quoted decodeFrom prepend pairs sumBy le extend8 digit digits padded decimal signedDecimal hexLower hexLower4 widthOf familyOf kindOf sheetAt sheetOps opsFrom onLine accepted mayFollow isMissing findName hasName fill typeRow infoRow lineAt lineHead lineTypes headAt typesAt typesFrom withType typeAt nameAt mayBeName keyedAt numberAt numberRead isNameByte literalAt after typeCode typeCodeIn typeNames unsignedValue digitsValue digitValue run same opens text above nameOf isJump distanceOf targetOf stringText operandText operandTexts offsetText instructionText endsFlow targets labelsOf labelOffsets among different labelLine labelText instructionLine linesOf longLine entriesFor unlessLong listDecoded append all lookupFrom meant unescape leBytes parseU32In hasmText.onto hasmText.linesOf hasmText.isWhite hasmText.solidLength hasmText.trim isQuote isComment outside inside splitOutside splitInside tokensFrom tokens nameIn operandsIn isSkipped isLabel hasHexMark behindHexMark isOffset behindOffset statementIn token.numberOr token.foundOr token.registerValue token.unsignedValue token.isQuoted token.stringValue token.offsetOr token.targetIn token.isNear token.distanceTo token.tokenValue hasm.isTextByte hasm.unlessBadLine hasm.onStatement hasm.codesFrom hasm.onName hasm.unlessBadName hasm.foundIn hasm.holding hasm.labelsFrom hasm.unlessFound hasm.labelOffset hasm.prepend hasm.onValue hasm.operandsFrom hasm.behind hasm.onOperands hasm.bytesFrom hasm.assembleCodes hasm.assembleText assembleOutcome
 prints s = printed s
 
 -- document 01's job
 document-job : prints (job (text "body=0001070106020100000401\n")) ≡ text "0000  LoadByte r1, 7\n0003  Jmp L9\nL5:\n0005  LoadText r1, \"a,b\"\nL9:\n0009  Ret r1\n"
-unfolding prints job text
+unfolding prints jobOf text
 document-job = refl
 
 -- 13 at its offset; hex of either case
 beyond-job : prints (job (text "body=040105\n")) ≡ text "refused=13 place=2 operand=0\n"
-unfolding prints job text
+unfolding prints jobOf text
 beyond-job = refl
 
 -- a byte behind the body's line, which is the job's eleventh; an odd digit; a line that is not ended
 line-behind : prints (job (text "body=04Ff\n\n")) ≡ text "refused=1 place=12 operand=0\n"
-unfolding prints job text
+unfolding prints jobOf text
 line-behind = refl
 
 odd-digit : prints (job (text "body=040\n")) ≡ text "refused=1 place=11 operand=0\n"
-unfolding prints job text
+unfolding prints jobOf text
 odd-digit = refl
 
 unended-line : prints (job (text "body=0401")) ≡ text "refused=1 place=11 operand=0\n"
-unfolding prints job text
+unfolding prints jobOf text
 unended-line = refl
 
 -- too many strings, at their line; a job that is not there yet
@@ -68,3 +78,25 @@ many-strings = refl
 other-job : prints (text "job=carry\n") ≡ text "refused=1 place=1 operand=0\n"
 unfolding prints text
 other-job = refl
+
+-- the listing that document 01 prints, assembled to the body it was listed from
+abbrev assembleJob : List ℕ → List ℕ
+assembleJob last = jobOf (text "job=assemble\n") (text "text=\n" ++ last)
+
+document-text : prints (assembleJob (text "0000  LoadByte r1, 7\n0003  Jmp L9\nL5:\n0005  LoadText r1, \"a,b\"\nL9:\n0009  Ret r1\n")) ≡ text "body=0001070106020100000401\n"
+unfolding prints jobOf text
+document-text = refl
+
+-- "bad register on line 1, unknown name on line 2: 4 at line 2", lines of the text
+unknown-name : prints (assembleJob (text "Ret x1\nRat r1\n")) ≡ text "refused=4 place=2 operand=0\n"
+unfolding prints jobOf text
+unknown-name = refl
+
+-- no text, and its line missing
+empty-text : prints (assembleJob (text "")) ≡ text "body=\n"
+unfolding prints jobOf text
+empty-text = refl
+
+no-text : prints (jobOf (text "job=assemble\n") (text "body=\n")) ≡ text "refused=1 place=11 operand=0\n"
+unfolding prints jobOf text
+no-text = refl

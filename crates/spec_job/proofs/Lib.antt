@@ -1,4 +1,5 @@
 pub mod HexLaws
 pub mod TableLaws
 pub mod JobLaws
+pub mod NumberLaws
 pub mod JobTrials

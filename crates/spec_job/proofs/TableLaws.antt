@@ -2,12 +2,13 @@
 use mathlib.Core.Path.{_≡_, refl, ap, sym, _∙_}
 use mathlib.Core.Bool.{Bool, true, false}
 use mathlib.Core.List.{List, [], _∷_, _++_}
-use Prim.Native.Nat.{ℕ, zero, suc, _+_, _-_, _*_, _≤_}
+use Prim.Native.Nat.{ℕ, zero, suc, _+_, _-_, _*_, _<_, _≤_}
 use native.Mathlib.Omega.{arith}
-use lib.ListN.{length, drop, length-append}
+use lib.ListN.{length, drop, length-append, length-drop}
 use Rattle.lists.specs.Choice.{pick}
 use Rattle.lists.specs.Scan.{opens}
 use Rattle.lists.specs.Text.{text}
+use Rattle.lists.proofs.Scans.{opens-length}
 use Rattle.spec_sheet.specs.Scan.{Step, after, literalAt, keyedAt, lineEnd}
 use Rattle.spec_sheet.specs.Scan.Step.{next, off}
 use Rattle.spec_sheet.proofs.ScanLaws.{reached, keyed-bound}
@@ -17,7 +18,7 @@ use Rattle.spec_job.specs.Table.{TableRead, onHex, keyedHexAt, stringsFr
 use Rattle.spec_job.specs.Table.TableRead.{table, faultAfter}
 use Rattle.spec_job.proofs.HexLaws.{Spread, hex-spread}
 
--- bytes that stand at a place, and bytes that do not
+-- bytes that stand at a place
 module _ (key s : List ℕ) (at : ℕ) where
   pub literal-here : (v a : ℕ) → literalAt key s at ≡ next v a → (opens key (drop at s) ≡ true) × (a ≡ at + length key)
   unfolding literalAt
@@ -27,13 +28,11 @@ module _ (key s : List ℕ) (at : ℕ) where
       go true q = (refl, (let z : at + length key ≡ a = cc q in sym z))
       go false q = absurd (let z : _≡_ {A = ℕ} 0 1 = cc q in omega arith)
 
-  pub literal-off : literalAt key s at ≡ off → opens key (drop at s) ≡ false
-  unfolding literalAt
-  literal-off e = go (opens key (drop at s)) e
-    where
-      go : (t : Bool) → pick t (next 0 (at + length key)) off ≡ off → t ≡ false
-      go true q = absurd (let z : _≡_ {A = ℕ} 0 1 = cc q in omega arith)
-      go false q = refl
+  -- such bytes end inside the text
+  pub literal-inside : (v a : ℕ) → 0 < length key → literalAt key s at ≡ next v a → a ≤ length s
+  literal-inside v a h e =
+      let p = literal-here v a e in
+      omega (arith, p .1, length-drop at s, opens-length key (drop at s) (p .0))
 
   -- a line of hex with its key, and one without
   pub keyed-hex : (v a : ℕ) → literalAt key s at ≡ next v a → keyedHexAt key s at ≡ hexAt s a

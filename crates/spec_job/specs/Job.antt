@@ -60,10 +60,11 @@ unfoldable pub readList : List ℕ → ℕ → JobRead
 readList s at = onEdition (editionAt s at 2) λ e b line. withBody s b line (listJob e)
 
 -- "`job=assemble` has `text=` instead of `body`, the text starting on the next line"
+unfoldable pub withText : List ℕ → ℕ → ℕ → Edition → JobRead
+withText s at line e = after (literalAt (text "text=\n") s at) (badLine line) λ _ b. assembleJob e b
+
 unfoldable pub readAssemble : List ℕ → ℕ → JobRead
-readAssemble s at = onEdition (editionAt s at 2) λ e b line.
-    after (literalAt (text "text=\n") s b) (badLine line) λ _ c.
-    assembleJob e c
+readAssemble s at = onEdition (editionAt s at 2) λ e b line. withText s b line e
 
 -- "`job=carry` puts the second sheet and strings before `body`"
 unfoldable pub readCarry : List ℕ → ℕ → JobRead
@@ -78,5 +79,5 @@ readWord has word s read other = pick has (after (literalAt word s 0) other λ _
 unfoldable pub readJob : List ℕ → JobRead
 readJob s =
     readWord true (text "job=list\n") s readList
-    (readWord false (text "job=assemble\n") s readAssemble
+    (readWord true (text "job=assemble\n") s readAssemble
     (readWord false (text "job=carry\n") s readCarry (badLine 1)))

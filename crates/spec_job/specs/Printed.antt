@@ -1,12 +1,12 @@
 -- What the desk program prints for a job (document 01, 'Around the core'). Assumes nothing.
 use mathlib.Core.Bool.{true}
-use mathlib.Core.List.{List, [], _++_}
+use mathlib.Core.List.{List, [], _∷_, _++_}
 use Prim.Native.Nat.{ℕ}
 use lib.Dec.{ltb}
-use lib.ListN.{length}
+use lib.ListN.{length, drop}
 use Rattle.lists.specs.Choice.{pick}
 use Rattle.lists.specs.Text.{text}
-use Rattle.spec_numbers.specs.Print.{decimal}
+use Rattle.spec_numbers.specs.Print.{decimal, padded, hexUpper}
 use Rattle.spec_sheet.specs.Sheet.{typeRows, largest}
 use Rattle.spec_body.specs.Decode.{decodeBody}
 use Rattle.spec_body.specs.Operation.{Outcome}
@@ -14,6 +14,8 @@ use Rattle.spec_body.specs.Operation.Outcome.{result, refusedWith}
 use Rattle.spec_listing.specs.Edition.{Options}
 use Rattle.spec_listing.specs.Listing.{listDecoded}
 use Rattle.spec_listing.specs.Operation.{listOutcome, underTable, editionOf}
+use Rattle.spec_hasm.specs.Assemble.{assembleText, entriesFor}
+use Rattle.spec_hasm.specs.Operation.{assembleOutcome}
 use Rattle.spec_job.specs.Job.{Edition, JobRead, readJob}
 use Rattle.spec_job.specs.Job.JobRead.{listJob, assembleJob, carryJob, badLine}
 
@@ -38,26 +40,48 @@ listEdition s e body =
     let under = editionOf s (e .opcodes) (e .bytes) (e .ends) in
     underTable (e .bytes) (e .ends) (listOutcome entriesLent (listDecoded defaultOptions under [] (decodeBody (typeRows (e .opcodes)) (largest (e .opcodes)) body)))
 
--- assembling and carrying are not read yet
+-- the body that a job's text comes to: 17, then as assembling a text
+unfoldable pub assembleEdition : List ℕ → Edition → List ℕ → Outcome
+assembleEdition s e t =
+    let under = editionOf s (e .opcodes) (e .bytes) (e .ends) in
+    underTable (e .bytes) (e .ends) (assembleOutcome entriesLent (entriesFor under t) (assembleText under t))
+
+-- a job by its lines; carrying is not read yet
 unfoldable pub jobRun : List ℕ → JobRead → Outcome
 jobRun s (listJob e body) = listEdition s e body
-jobRun s (assembleJob e at) = refusedWith 1 1 0
+jobRun s (assembleJob e at) = assembleEdition s e (drop at s)
 jobRun s (carryJob e f body) = refusedWith 1 1 0
 jobRun s (badLine line) = refusedWith 1 line 0
-
--- "After 18 of the job, the job's lines are checked for 1, numbered in the job, before 17"
-unfoldable pub jobOutcome : List ℕ → Outcome
-jobOutcome s = pick (ltb jobLimit (length s)) (refusedWith 18 0 0) (jobRun s (readJob s))
 
 -- "A refusal prints `refused=N place=P operand=Q`"; "each printed line ends in LF"
 unfoldable pub refusedText : ℕ → ℕ → ℕ → List ℕ
 refusedText number place operand =
     text "refused=" ++ decimal number ++ text " place=" ++ decimal place ++ text " operand=" ++ decimal operand ++ text "\n"
 
--- the listing itself, "past either it prints 19"
-unfoldable pub printedOf : Outcome → List ℕ
-printedOf (result t n) = pick (ltb outputLent (length t)) (refusedText 19 0 0) t
-printedOf (refusedWith number place operand) = refusedText number place operand
+-- "Printed hex is upper-case", two digits a byte
+unfoldable pub hexOf : List ℕ → List ℕ
+hexOf [] = []
+hexOf (b ∷ bs) = padded 2 (hexUpper b) ++ hexOf bs
 
+-- "it prints `body=` and hex"
+unfoldable pub bodyText : List ℕ → List ℕ
+bodyText bs = text "body=" ++ hexOf bs ++ text "\n"
+
+-- how a job's result is printed: a listing as it stands, a body in hex; carrying "prints the same"
+unfoldable pub formOf : JobRead → List ℕ → List ℕ
+formOf (listJob e body) t = t
+formOf (assembleJob e at) t = bodyText t
+formOf (carryJob e f body) t = bodyText t
+formOf (badLine line) t = t
+
+-- a result in its form, "past either it prints 19"; the bytes lent are the operation's, before they are printed
+unfoldable pub printedOf : (List ℕ → List ℕ) → Outcome → List ℕ
+printedOf form (result t n) = pick (ltb outputLent (length t)) (refusedText 19 0 0) (form t)
+printedOf form (refusedWith number place operand) = refusedText number place operand
+
+abbrev pub printedJob : List ℕ → JobRead → List ℕ
+printedJob s x = printedOf (formOf x) (jobRun s x)
+
+-- "After 18 of the job, the job's lines are checked for 1, numbered in the job, before 17"
 unfoldable pub printed : List ℕ → List ℕ
-printed s = printedOf (jobOutcome s)
+printed s = pick (ltb jobLimit (length s)) (refusedText 18 0 0) (printedJob s (readJob s))

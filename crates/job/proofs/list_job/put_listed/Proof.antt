@@ -1,10 +1,10 @@
 use native.Mathlib.Omega.{arith}
 use mathlib.Core.Path.{refl, ap}
 use Rattle.disasm.specs.Answers.{listReport}
-use Rattle.job.proofs.RunLaws.{tells-result, tells-refusal}
+use Rattle.job.proofs.ListLaws.{tells-result, tells-refusal}
 use borrow.Author.Needs.{needs}
-use Rattle.job.proofs.run.put_answer.Statement.{statement}
-use Rattle.job.proofs.run.put_answer.Tie as tie
+use Rattle.job.proofs.list_job.put_listed.Statement.{statement}
+use Rattle.job.proofs.list_job.put_listed.Tie as tie
 
 enum-known-a : tie.Need-enum-known-a
 enum-known-a c = search needs
@@ -117,8 +117,8 @@ returns-9 : tie.Need-returns-9
 unfolding listReport
 returns-9 c = tells-refusal _ _ _ _ 20 _ (omega arith) (ap listReport (c .before .before .before .before .before .a7 .given .1)) (c .before .before .refused8 .ensures)
 
-pub put-answer-spec : {M : Type 1} → statement M
-put-answer-spec =
+pub put-listed-spec : {M : Type 1} → statement M
+put-listed-spec =
     tie.close
     (tie.spec
     enum-known-a

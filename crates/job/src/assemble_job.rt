@@ -1,0 +1,135 @@
+// A job that assembles a text: its body is printed in hex.
+ghost use mathlib.Core.Path.{_≡_};
+ghost use mathlib.Core.List.{List};
+ghost use Prim.Native.Nat.{_≤_};
+ghost use lib.ListN.{length};
+ghost use Rattle.spec_sheet.specs.Line.{Op};
+ghost use Rattle.spec_sheet.specs.Sheet.{typeRows, infoRows};
+ghost use Rattle.spec_answers.specs.Report.{refusal, success};
+ghost use Rattle.spec_job.specs.Job.{withText};
+ghost use Rattle.spec_job.specs.Printed.{assembleEdition, printedJob};
+ghost use Rattle.assemble.specs.Answers.{assembleReport, Ended};
+ghost use Rattle.job.specs.Run.{Prints, numbersOf, toldBody};
+use crate::print::refused;
+use assemble::answer::AssembleAnswer;
+use hasm_labels::slot::Slot;
+use inputs::Inputs;
+use job_reader::reader::TextAnswer;
+use slices::write::clear;
+
+// The 65,536 output bytes and the 4,096 label entries that the program lends. No contract, since the types say the lengths.
+fn body_space() -> [u8; 65536] {
+    [0; 65536]
+}
+
+fn label_space() -> [Slot; 4096] {
+    [[0; 3]; 4096]
+}
+
+// Assembles the text of a job whose lines are in order: 17, then as assembling a text, which asks for no largest opcode.
+fn assemble_edition(
+    job: &[u8],
+    types: &[[u8; 8]; 256],
+    ops: &[[usize; 4]; 256],
+    bytes: &[u8],
+    ends: &[u32],
+    source: &[u8],
+    out: &mut [u8],
+) -> AssembleAnswer
+    requires { ⌜ (length (now source) ≤ 65536) × (length (now ends) ≤ 4096) ⌝ }
+    ensures { λ r. ⌜ ((os : List Op) → now (types .entry) ≡ typeRows os → now (ops .entry) ≡ infoRows os → Ended (assembleEdition (now (job .entry)) (record { opcodes = os; bytes = now (bytes .entry); ends = now (ends .entry) }) (now (source .entry))) (now (out .entry)) (now (out .exit)) r) ⌝ }
+    ensures { λ r. ⌜ assembleReport r .length ≤ length (now (out .entry)) ⌝ }
+{
+    let i = crate::tables::table_inputs(0, bytes, ends);
+    let Inputs::Ready(_) = i else {
+        clear(out);
+        return assemble::answer::refused_inputs(i);
+    };
+    let mut labels = label_space();
+    assemble::operation::assemble_under(job, types, ops, bytes, ends, source, out, &mut labels)
+}
+
+// Number, place and operand of a refusal, or three zeros and the length.
+pub struct Numbers {
+    pub number: u64,
+    pub place: usize,
+    pub operand: usize,
+    pub length: usize,
+}
+
+fn refusal_of(number: u64, place: usize, operand: usize) -> Numbers
+    ensures { λ r. ⌜ r ≡ numbersOf (refusal number place operand) ⌝ }
+{
+    Numbers {
+        number,
+        place,
+        operand,
+        length: 0,
+    }
+}
+
+fn done(n: usize) -> Numbers
+    ensures { λ r. ⌜ r ≡ numbersOf (success n) ⌝ }
+{
+    Numbers {
+        number: 0,
+        place: 0,
+        operand: 0,
+        length: n,
+    }
+}
+
+fn assemble_numbers(a: AssembleAnswer) -> Numbers
+    ensures { λ r. ⌜ r ≡ numbersOf (assembleReport a) ⌝ }
+{
+    match a {
+        AssembleAnswer::Done(n) => done(n),
+        AssembleAnswer::Malformed(line) => refusal_of(1, line, 0),
+        AssembleAnswer::BadByte(line) => refusal_of(2, line, 0),
+        AssembleAnswer::Long(line) => refusal_of(3, line, 0),
+        AssembleAnswer::Unknown(line) => refusal_of(4, line, 0),
+        AssembleAnswer::Count(line) => refusal_of(5, line, 0),
+        AssembleAnswer::Operand(number, line, operand) => refusal_of(number, line, operand),
+        AssembleAnswer::Fault(id) => refusal_of(17, id, 0),
+        AssembleAnswer::TooLarge => refusal_of(18, 0, 0),
+        AssembleAnswer::Short => refusal_of(19, 0, 0),
+    }
+}
+
+// Prints a body that was assembled at the front of `out`, or the line of a refusal.
+fn put_assembled(a: AssembleAnswer, out: &[u8], text: &mut [u8]) -> usize
+    requires { ⌜ (assembleReport a .length ≤ length (now out)) × (length (now out) ≤ 65536) ⌝ }
+    ensures { λ r. ⌜ Prints (toldBody (assembleReport a) (now (out .entry))) (now (text .entry)) (now (text .exit)) r ⌝ }
+{
+    let n = assemble_numbers(a);
+    if n.number == 0 {
+        let size = n.length;
+        return crate::print::put_body(text, 0, &out[0..size]);
+    }
+    crate::print::put_refused(text, 0, n.number, n.place as u64, n.operand as u64)
+}
+
+// Prints the body that the job's text comes to, under the edition that was read before it. The line `text=` stands at `at`.
+pub fn print_assembled(
+    job: &[u8],
+    at: usize,
+    line: usize,
+    types: &[[u8; 8]; 256],
+    ops: &[[usize; 4]; 256],
+    bytes: &[u8],
+    ends: &[u32],
+    text: &mut [u8],
+) -> usize
+    requires { ⌜ (length (now job) ≤ 65536) × (length (now ends) ≤ 4096) ⌝ }
+    ensures { λ r. ⌜ ((os : List Op) → now (types .entry) ≡ typeRows os → now (ops .entry) ≡ infoRows os → Prints (printedJob (now (job .entry)) (withText (now (job .entry)) at line (record { opcodes = os; bytes = now (bytes .entry); ends = now (ends .entry) }))) (now (text .entry)) (now (text .exit)) r) ⌝ }
+{
+    let t = job_reader::reader::text_at(job, at, line);
+    match t {
+        TextAnswer::From(b) => {
+            let mut out = body_space();
+            let a = assemble_edition(job, types, ops, bytes, ends, &job[b..], &mut out);
+            put_assembled(a, &out, text)
+        }
+        TextAnswer::BadLine(bad) => refused(text, 1, bad),
+    }
+}

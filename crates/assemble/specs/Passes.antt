@@ -1,7 +1,7 @@
 -- What a pass over a text leaves for the next. Assumes nothing.
 use mathlib.Core.Path.{_≡_}
 use mathlib.Core.List.{List}
-use Prim.Native.Nat.{ℕ, _≤_}
+use Prim.Native.Nat.{ℕ, _≤_, _<_}
 use lib.ListN.{length, take}
 use Rattle.spec_listing.specs.Edition.{Edition}
 use Rattle.spec_hasm.specs.Assemble.{Assembled, codesOf, unlessBadName, labelsFrom, entriesFor}
@@ -17,3 +17,9 @@ pub record Named (e : Edition) (text : List ℕ) (count : ℕ) (slots : List (Li
 -- under a sheet's tables, whatever the strings are
 abbrev pub NamesGood : List ℕ → List (List ℕ) → List (List ℕ) → List ℕ → ℕ → List (List ℕ) → Type 0
 NamesGood source types ops text count slots = (bytes ends : List ℕ) → Named (edition source types ops bytes ends) text count slots
+
+-- space for the texts' index: some heads, and a next for each of the table's ids
+pub record IdSpace (heads nexts ends : List ℕ) : Type 0 where
+  pub some : 0 < length heads
+  pub each : length ends ≤ length nexts
+  pub few : length ends ≤ 65536

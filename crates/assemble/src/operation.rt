@@ -8,13 +8,27 @@ ghost use Rattle.spec_hasm.specs.Operation as operation;
 ghost use Rattle.spec_hasm.specs.Operation.{assembleOutcome};
 ghost use Rattle.hasm_operands.specs.Puts.{edition};
 ghost use Rattle.assemble.specs.Answers.{Ended};
+ghost use Rattle.assemble.specs.Passes.{IdSpace};
 use crate::answer::AssembleAnswer;
 use hasm_labels::slot::Slot;
 use inputs::Inputs;
 use slices::write::clear;
 
-// Assembles a text under the tables of a sheet, whose names are parts of `source`.
+// Space for the index of the texts: a small table has a small one, as clearing a large one takes longer than a short text. No
+// contract, since the types say the lengths.
+fn few_ids() -> [u32; 256] {
+    [0; 256]
+}
+
+fn all_ids() -> [u32; 65536] {
+    [0; 65536]
+}
+
+// Assembles a text under the tables of a sheet, whose names are parts of `source`. The texts' index goes to the two slices of
+// ids.
 pub fn assemble_under(
+    first_ids: &mut [u32],
+    next_ids: &mut [u32],
     source: &[u8],
     types: &[[u8; 8]; 256],
     ops: &[[usize; 4]; 256],
@@ -24,11 +38,22 @@ pub fn assemble_under(
     out: &mut [u8],
     labels: &mut [Slot],
 ) -> AssembleAnswer
-    requires { ⌜ (length (now text) ≤ 1048576) × (length (now ends) ≤ 65536) ⌝ }
+    requires { ⌜ IdSpace (now «first_ids») (now «next_ids») (now ends) × (length (now text) ≤ 1048576) ⌝ }
     ensures { λ r. ⌜ Ended (assembleOutcome (length (now (labels .entry))) (entriesFor (edition (now (source .entry)) (now (types .entry)) (now (ops .entry)) (now (bytes .entry)) (now (ends .entry))) (now (text .entry))) (assembleText (edition (now (source .entry)) (now (types .entry)) (now (ops .entry)) (now (bytes .entry)) (now (ends .entry))) (now (text .entry)))) (now (out .entry)) (now (out .exit)) r ⌝ }
     ensures { λ _. ⌜ now (labels .exit) ≡ replicate (length (now (labels .entry))) (0 ∷ 0 ∷ 0 ∷ []) ⌝ }
 {
-    let a = crate::passes::assemble_text(source, types, ops, bytes, ends, text, out, labels);
+    let a = crate::passes::assemble_text(
+        first_ids,
+        next_ids,
+        source,
+        types,
+        ops,
+        bytes,
+        ends,
+        text,
+        out,
+        labels,
+    );
     crate::answer::clear_labels(labels);
     a
 }
@@ -58,5 +83,34 @@ pub fn assemble(
         crate::answer::clear_labels(labels);
         return crate::answer::refused_inputs(i);
     };
-    assemble_under(sheet, &types, &ops, bytes, ends, text, out, labels)
+    if ends.len() <= 256 {
+        let mut few_first = few_ids();
+        let mut few_next = few_ids();
+        return assemble_under(
+            &mut few_first,
+            &mut few_next,
+            sheet,
+            &types,
+            &ops,
+            bytes,
+            ends,
+            text,
+            out,
+            labels,
+        );
+    }
+    let mut first_ids = all_ids();
+    let mut next_ids = all_ids();
+    assemble_under(
+        &mut first_ids,
+        &mut next_ids,
+        sheet,
+        &types,
+        &ops,
+        bytes,
+        ends,
+        text,
+        out,
+        labels,
+    )
 }

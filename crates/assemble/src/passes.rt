@@ -9,7 +9,7 @@ ghost use Rattle.spec_hasm.specs.Operation.{assembleOutcome};
 ghost use Rattle.names.specs.Keys.{NamesIndexed};
 ghost use Rattle.hasm_operands.specs.Puts.{edition};
 ghost use Rattle.assemble.specs.Answers.{Ended};
-ghost use Rattle.assemble.specs.Passes.{NamesGood};
+ghost use Rattle.assemble.specs.Passes.{IdSpace, NamesGood};
 use crate::answer::AssembleAnswer;
 use hasm_body::body::Bytes;
 use hasm_labels::pass::Names;
@@ -17,17 +17,9 @@ use hasm_labels::slot::Slot;
 use hasm_text::lines::Checked;
 use slices::write::clear;
 
-// Space for the indexes of names and texts. No contract, since what fills it says what it leaves.
+// Space for the index of names. No contract, since what fills it says what it leaves.
 fn name_heads() -> [u32; 1024] {
     [0; 1024]
-}
-
-fn few_ids() -> [u32; 256] {
-    [0; 256]
-}
-
-fn all_ids() -> [u32; 65536] {
-    [0; 65536]
 }
 
 // The labels that are held, where all of them fit.
@@ -57,8 +49,7 @@ fn put_indexed(
     labels: &[Slot],
     out: &mut [u8],
 ) -> AssembleAnswer
-    requires { ⌜ (0 < length (now «first_ids»)) × (length (now ends) ≤ length (now «next_ids»)) × (length (now ends) ≤ 65536) ⌝ }
-    requires { ⌜ (length (now text) ≤ 1048576) × NamesIndexed (now source) (now ops) (now heads) (now nexts) ⌝ }
+    requires { ⌜ IdSpace (now «first_ids») (now «next_ids») (now ends) × (length (now text) ≤ 1048576) × NamesIndexed (now source) (now ops) (now heads) (now nexts) ⌝ }
     requires { ⌜ NamesGood (now source) (now types) (now ops) (now text) count (now labels) × ((rest : Assembled) → unlessBadLine 1 (linesOf (now text)) rest ≡ rest) ⌝ }
     ensures { λ r. ⌜ Ended (assembleOutcome (length (now (labels .entry))) (entriesFor (edition (now (source .entry)) (now (types .entry)) (now (ops .entry)) (now (bytes .entry)) (now (ends .entry))) (now (text .entry))) (assembleText (edition (now (source .entry)) (now (types .entry)) (now (ops .entry)) (now (bytes .entry)) (now (ends .entry))) (now (text .entry)))) (now (out .entry)) (now (out .exit)) r ⌝ }
 {
@@ -94,64 +85,10 @@ fn put_indexed(
     }
 }
 
-// The same with space for the index. A small table has a small one, as clearing a large one takes longer than a short text.
-fn put_body(
-    source: &[u8],
-    types: &[[u8; 8]; 256],
-    ops: &[[usize; 4]; 256],
-    heads: &[u32],
-    nexts: &[u32],
-    bytes: &[u8],
-    ends: &[u32],
-    text: &[u8],
-    count: usize,
-    labels: &[Slot],
-    out: &mut [u8],
-) -> AssembleAnswer
-    requires { ⌜ (length (now text) ≤ 1048576) × (length (now ends) ≤ 65536) × NamesIndexed (now source) (now ops) (now heads) (now nexts) ⌝ }
-    requires { ⌜ NamesGood (now source) (now types) (now ops) (now text) count (now labels) × ((rest : Assembled) → unlessBadLine 1 (linesOf (now text)) rest ≡ rest) ⌝ }
-    ensures { λ r. ⌜ Ended (assembleOutcome (length (now (labels .entry))) (entriesFor (edition (now (source .entry)) (now (types .entry)) (now (ops .entry)) (now (bytes .entry)) (now (ends .entry))) (now (text .entry))) (assembleText (edition (now (source .entry)) (now (types .entry)) (now (ops .entry)) (now (bytes .entry)) (now (ends .entry))) (now (text .entry)))) (now (out .entry)) (now (out .exit)) r ⌝ }
-{
-    if ends.len() <= 256 {
-        let mut few_first = few_ids();
-        let mut few_next = few_ids();
-        return put_indexed(
-            &mut few_first,
-            &mut few_next,
-            source,
-            types,
-            ops,
-            heads,
-            nexts,
-            bytes,
-            ends,
-            text,
-            count,
-            labels,
-            out,
-        );
-    }
-    let mut first_ids = all_ids();
-    let mut next_ids = all_ids();
-    put_indexed(
-        &mut first_ids,
-        &mut next_ids,
-        source,
-        types,
-        ops,
-        heads,
-        nexts,
-        bytes,
-        ends,
-        text,
-        count,
-        labels,
-        out,
-    )
-}
-
 // Reads the names of a text whose lines are good, which stores the labels that fit, then writes its instructions.
 fn name_and_put(
+    first_ids: &mut [u32],
+    next_ids: &mut [u32],
     source: &[u8],
     types: &[[u8; 8]; 256],
     ops: &[[usize; 4]; 256],
@@ -161,7 +98,7 @@ fn name_and_put(
     out: &mut [u8],
     labels: &mut [Slot],
 ) -> AssembleAnswer
-    requires { ⌜ (length (now text) ≤ 1048576) × (length (now ends) ≤ 65536) ⌝ }
+    requires { ⌜ IdSpace (now «first_ids») (now «next_ids») (now ends) × (length (now text) ≤ 1048576) ⌝ }
     requires { ⌜ ((rest : Assembled) → unlessBadLine 1 (linesOf (now text)) rest ≡ rest) ⌝ }
     ensures { λ r. ⌜ Ended (assembleOutcome (length (now (labels .entry))) (entriesFor (edition (now (source .entry)) (now (types .entry)) (now (ops .entry)) (now (bytes .entry)) (now (ends .entry))) (now (text .entry))) (assembleText (edition (now (source .entry)) (now (types .entry)) (now (ops .entry)) (now (bytes .entry)) (now (ends .entry))) (now (text .entry)))) (now (out .entry)) (now (out .exit)) r ⌝ }
 {
@@ -170,7 +107,9 @@ fn name_and_put(
     names::index::index_names(source, ops, &mut heads, &mut nexts);
     let n = hasm_labels::pass::read_names(text, source, types, ops, &heads, &nexts, labels, b"");
     match n {
-        Names::Good(count, _, _) => put_body(
+        Names::Good(count, _, _) => put_indexed(
+            first_ids,
+            next_ids,
             source,
             types,
             ops,
@@ -196,6 +135,8 @@ fn name_and_put(
 
 // All passes over a text, under the tables of a sheet whose names are parts of `source`. The labels are left as they were used.
 pub fn assemble_text(
+    first_ids: &mut [u32],
+    next_ids: &mut [u32],
     source: &[u8],
     types: &[[u8; 8]; 256],
     ops: &[[usize; 4]; 256],
@@ -205,12 +146,23 @@ pub fn assemble_text(
     out: &mut [u8],
     labels: &mut [Slot],
 ) -> AssembleAnswer
-    requires { ⌜ (length (now text) ≤ 1048576) × (length (now ends) ≤ 65536) ⌝ }
+    requires { ⌜ IdSpace (now «first_ids») (now «next_ids») (now ends) × (length (now text) ≤ 1048576) ⌝ }
     ensures { λ r. ⌜ Ended (assembleOutcome (length (now (labels .entry))) (entriesFor (edition (now (source .entry)) (now (types .entry)) (now (ops .entry)) (now (bytes .entry)) (now (ends .entry))) (now (text .entry))) (assembleText (edition (now (source .entry)) (now (types .entry)) (now (ops .entry)) (now (bytes .entry)) (now (ends .entry))) (now (text .entry)))) (now (out .entry)) (now (out .exit)) r ⌝ }
 {
     let c = hasm_text::lines::check_lines(text);
     match c {
-        Checked::Good => name_and_put(source, types, ops, bytes, ends, text, out, labels),
+        Checked::Good => name_and_put(
+            first_ids,
+            next_ids,
+            source,
+            types,
+            ops,
+            bytes,
+            ends,
+            text,
+            out,
+            labels,
+        ),
         Checked::Long(line) => {
             clear(out);
             AssembleAnswer::Long(line)

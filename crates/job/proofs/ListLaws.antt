@@ -28,7 +28,7 @@ use Rattle.inputs.specs.declared.Inputs.{Inputs}
 use Rattle.listing.specs.Parts.{editionOf}
 use Rattle.disasm.specs.Answers.{listReport, Ended}
 use Rattle.disasm.specs.declared.answer.ListAnswer.{ListAnswer}
-use Rattle.disasm.proofs.EndLaws.{refused-end}
+use Rattle.endings.proofs.EndLaws.{refused-end}
 use Rattle.job.specs.Run.{Prints, Told}
 use Rattle.job.proofs.InputLaws.{AreReady, AreRefused}
 use Rattle.job.proofs.PrintLaws.{refusal-prints, same-print}
@@ -43,7 +43,7 @@ module _ (job bytes ends body : List ℕ) (os : List Op) (before after : List �
 
   pub list-refused : (i : Inputs) → AreRefused bytes ends i → listReport r ≡ inputsReport i → after ≡ zeros before → Ended (listEdition job own body) before after r
   unfolding listEdition
-  list-refused i w q z = refused-end _ r (w .number) (w .place) 0 before after (w .stops _) (q ∙ w .told) z
+  list-refused i w q z = refused-end _ _ (w .number) (w .place) 0 before after (w .stops _) (q ∙ w .told) z
 
   pub list-ready : (types ops : List (List ℕ)) (last k m : ℕ) → AreReady last bytes ends k → types ≡ typeRows os → ops ≡ infoRows os → m ≡ above 0 os → last ≡ m - 1
       → Ended (listOutcome 4096 (listDecoded defaultOptions (editionOf job types ops bytes ends) [] (decodeBody types k body))) before after r → Ended (listEdition job own body) before after r

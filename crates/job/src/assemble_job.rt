@@ -26,6 +26,11 @@ fn label_space() -> [Slot; 4096] {
     [[0; 3]; 4096]
 }
 
+// Space for the index of a job's strings, of which there are at most as many.
+fn id_space() -> [u32; 4096] {
+    [0; 4096]
+}
+
 // Assembles the text of a job whose lines are in order: 17, then as assembling a text, which asks for no largest opcode.
 fn assemble_edition(
     job: &[u8],
@@ -45,8 +50,21 @@ fn assemble_edition(
         clear(out);
         return assemble::answer::refused_inputs(i);
     };
+    let mut first_ids = id_space();
+    let mut next_ids = id_space();
     let mut labels = label_space();
-    assemble::operation::assemble_under(job, types, ops, bytes, ends, source, out, &mut labels)
+    assemble::operation::assemble_under(
+        &mut first_ids,
+        &mut next_ids,
+        job,
+        types,
+        ops,
+        bytes,
+        ends,
+        source,
+        out,
+        &mut labels,
+    )
 }
 
 // Number, place and operand of a refusal, or three zeros and the length.

@@ -1,6 +1,6 @@
 -- The lines of a job (document 01, 'Around the core'). Assumes nothing.
 use mathlib.Core.Bool.{Bool, true, false}
-use mathlib.Core.List.{List, []}
+use mathlib.Core.List.{List}
 use Prim.Native.Nat.{ℕ, _+_, _-_}
 use lib.Dec.{eqb}
 use lib.ListN.{length}
@@ -10,8 +10,7 @@ use Rattle.spec_sheet.specs.Line.{Op}
 use Rattle.spec_sheet.specs.Scan.{after, literalAt}
 use Rattle.spec_sheet.specs.Sheet.{SheetRead, sheetAt}
 use Rattle.spec_sheet.specs.Sheet.SheetRead.{sheet, malformed}
-use Rattle.spec_job.specs.Hex.{HexRead}
-use Rattle.spec_job.specs.Hex.HexRead.{hex, noHex}
+use Rattle.spec_job.specs.Hex.HexRead.{hex}
 use Rattle.spec_job.specs.Table.{TableRead, onHex, keyedHexAt, tableAt}
 use Rattle.spec_job.specs.Table.TableRead.{table, faultAfter}
 

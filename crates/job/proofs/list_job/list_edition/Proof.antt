@@ -1,5 +1,5 @@
 use mathlib.Core.Path.{sym, _∙_}
-use Rattle.disasm.proofs.OperationLaws.{not-ready}
+use Rattle.inputs.proofs.EndedLaws.{not-ready}
 use Rattle.job.proofs.InputLaws.{were-ready, were-refused}
 use Rattle.job.proofs.ListLaws.{list-refused, list-ready}
 use borrow.Author.Needs.{needs}

@@ -6,8 +6,12 @@ ghost use lib.ListN.{length, replicate};
 ghost use Rattle.spec_answers.specs.Report.{refusal};
 ghost use Rattle.inputs.specs.Read.{inputsReport};
 ghost use Rattle.endings.specs.Ends.{measuredReport};
+ghost use Rattle.endings.specs.Numbers.{numbersOf};
 ghost use Rattle.assemble.specs.Answers.{assembleReport};
 use endings::Measured;
+use endings::Numbers;
+use endings::done;
+use endings::refused;
 use hasm_labels::slot::Slot;
 use inputs::Inputs;
 
@@ -23,6 +27,24 @@ pub enum AssembleAnswer {
     Fault(usize),
     TooLarge,
     Short,
+}
+
+// The numbers of assembling's answer.
+pub fn assemble_numbers(a: AssembleAnswer) -> Numbers
+    ensures { λ r. ⌜ r ≡ numbersOf (assembleReport a) ⌝ }
+{
+    match a {
+        AssembleAnswer::Done(n) => done(n),
+        AssembleAnswer::Malformed(line) => refused(1, line, 0),
+        AssembleAnswer::BadByte(line) => refused(2, line, 0),
+        AssembleAnswer::Long(line) => refused(3, line, 0),
+        AssembleAnswer::Unknown(line) => refused(4, line, 0),
+        AssembleAnswer::Count(line) => refused(5, line, 0),
+        AssembleAnswer::Operand(number, line, operand) => refused(number, line, operand),
+        AssembleAnswer::Fault(id) => refused(17, id, 0),
+        AssembleAnswer::TooLarge => refused(18, 0, 0),
+        AssembleAnswer::Short => refused(19, 0, 0),
+    }
 }
 
 // What a body of k bytes that was measured answers.

@@ -7,53 +7,22 @@ ghost use Rattle.spec_body.specs.Operation as operation;
 ghost use Rattle.spec_body.specs.Operation.{report, exitOf};
 ghost use Rattle.decode.specs.Bodies.{decodeReport};
 ghost use Rattle.write_record.specs.Written.{encodeReport};
-ghost use Rattle.desk_host.specs.Numbers.{numbersOf};
-ghost use Rattle.spec_answers.specs.Report.{refusal, success};
+ghost use Rattle.endings.specs.Numbers.{numbersOf};
 ghost use Rattle.spec_listing.specs.Operation as listing;
 ghost use Rattle.listing.specs.Parts.{optionsOf};
 ghost use Rattle.disasm.specs.Answers.{listReport};
 ghost use Rattle.disasm.specs.Functions.{areaOf};
 ghost use Rattle.spec_hasm.specs.Operation as hasm;
-ghost use Rattle.assemble.specs.Answers.{assembleReport};
-use assemble::answer::AssembleAnswer;
 use decode::instructions::DecodeAnswer;
 use disasm::answer::ListAnswer;
+use endings::Numbers;
+use endings::done;
+use endings::refused;
 use hasm_labels::slot::Slot;
 use write_record::record::EncodeAnswer;
 
-// Number, place and operand of a refusal, or three zeros and the length.
-#[repr(C)]
-pub struct DeskAnswer {
-    pub number: u64,
-    pub place: u64,
-    pub operand: u64,
-    pub length: u64,
-}
-
-fn done(n: usize) -> DeskAnswer
-    ensures { λ r. ⌜ r ≡ numbersOf (success n) ⌝ }
-{
-    DeskAnswer {
-        number: 0,
-        place: 0,
-        operand: 0,
-        length: n as u64,
-    }
-}
-
-fn refused(number: u64, place: usize, operand: usize) -> DeskAnswer
-    ensures { λ r. ⌜ r ≡ numbersOf (refusal number place operand) ⌝ }
-{
-    DeskAnswer {
-        number,
-        place: place as u64,
-        operand: operand as u64,
-        length: 0,
-    }
-}
-
 // The numbers of decoding's answer.
-pub fn decode_numbers(a: DecodeAnswer) -> DeskAnswer
+pub fn decode_numbers(a: DecodeAnswer) -> Numbers
     ensures { λ r. ⌜ r ≡ numbersOf (decodeReport a) ⌝ }
 {
     match a {
@@ -68,7 +37,7 @@ pub fn decode_numbers(a: DecodeAnswer) -> DeskAnswer
 }
 
 // The numbers of encoding's answer.
-pub fn encode_numbers(a: EncodeAnswer) -> DeskAnswer
+pub fn encode_numbers(a: EncodeAnswer) -> Numbers
     ensures { λ r. ⌜ r ≡ numbersOf (encodeReport a) ⌝ }
 {
     match a {
@@ -85,7 +54,7 @@ pub fn encode_numbers(a: EncodeAnswer) -> DeskAnswer
 
 // Decodes a body under the sheet `text` into records of 20 words.
 #[no_mangle]
-pub extern "C" fn desk_decode(text: &[u8], body: &[u8], out: &mut [u64]) -> DeskAnswer
+pub extern "C" fn desk_decode(text: &[u8], body: &[u8], out: &mut [u64]) -> Numbers
     ensures { λ r. ⌜ r ≡ numbersOf (report (operation.decode (now (text .entry)) (now (body .entry))) (length (now (out .entry)))) ⌝ }
     ensures { λ _. ⌜ now (out .exit) ≡ exitOf (operation.decode (now (text .entry)) (now (body .entry))) (now (out .entry)) ⌝ }
 {
@@ -101,7 +70,7 @@ pub extern "C" fn desk_decode_function(
     base: u32,
     id: usize,
     out: &mut [u64],
-) -> DeskAnswer
+) -> Numbers
     ensures { λ r. ⌜ r ≡ numbersOf (report (operation.decodeFunction (now (text .entry)) (now (functions .entry)) (now (area .entry)) base id) (length (now (out .entry)))) ⌝ }
     ensures { λ _. ⌜ now (out .exit) ≡ exitOf (operation.decodeFunction (now (text .entry)) (now (functions .entry)) (now (area .entry)) base id) (now (out .entry)) ⌝ }
 {
@@ -110,7 +79,7 @@ pub extern "C" fn desk_decode_function(
 
 // Encodes records of 20 words under the sheet `text` into a body.
 #[no_mangle]
-pub extern "C" fn desk_encode(text: &[u8], words: &[u64], out: &mut [u8]) -> DeskAnswer
+pub extern "C" fn desk_encode(text: &[u8], words: &[u64], out: &mut [u8]) -> Numbers
     ensures { λ r. ⌜ r ≡ numbersOf (report (operation.encode (now (text .entry)) (now (words .entry))) (length (now (out .entry)))) ⌝ }
     ensures { λ _. ⌜ now (out .exit) ≡ exitOf (operation.encode (now (text .entry)) (now (words .entry))) (now (out .entry)) ⌝ }
 {
@@ -118,7 +87,7 @@ pub extern "C" fn desk_encode(text: &[u8], words: &[u64], out: &mut [u8]) -> Des
 }
 
 // The numbers of listing's answer.
-pub fn list_numbers(a: ListAnswer) -> DeskAnswer
+pub fn list_numbers(a: ListAnswer) -> Numbers
     ensures { λ r. ⌜ r ≡ numbersOf (listReport a) ⌝ }
 {
     match a {
@@ -146,7 +115,7 @@ pub extern "C" fn desk_list(
     texts: bool,
     out: &mut [u8],
     entries: &mut [u32],
-) -> DeskAnswer
+) -> Numbers
     ensures { λ r. ⌜ r ≡ numbersOf (report (listing.list (optionsOf offsets labels texts) (now (text .entry)) (now (bytes .entry)) (now (ends .entry)) (now (body .entry)) (length (now (entries .entry)))) (length (now (out .entry)))) ⌝ }
     ensures { λ _. ⌜ now (out .exit) ≡ exitOf (listing.list (optionsOf offsets labels texts) (now (text .entry)) (now (bytes .entry)) (now (ends .entry)) (now (body .entry)) (length (now (entries .entry)))) (now (out .entry)) ⌝ }
     ensures { λ _. ⌜ now (entries .exit) ≡ replicate (length (now (entries .entry))) 0 ⌝ }
@@ -179,7 +148,7 @@ pub extern "C" fn desk_list_function(
     texts: bool,
     out: &mut [u8],
     entries: &mut [u32],
-) -> DeskAnswer
+) -> Numbers
     ensures { λ r. ⌜ r ≡ numbersOf (report (listing.listFunction (optionsOf offsets labels texts) (now (text .entry)) (now (bytes .entry)) (now (ends .entry)) (areaOf (now (functions .entry)) (now (area .entry)) base) id (length (now (entries .entry)))) (length (now (out .entry)))) ⌝ }
     ensures { λ _. ⌜ now (out .exit) ≡ exitOf (listing.listFunction (optionsOf offsets labels texts) (now (text .entry)) (now (bytes .entry)) (now (ends .entry)) (areaOf (now (functions .entry)) (now (area .entry)) base) id (length (now (entries .entry)))) (now (out .entry)) ⌝ }
     ensures { λ _. ⌜ now (entries .exit) ≡ replicate (length (now (entries .entry))) 0 ⌝ }
@@ -214,7 +183,7 @@ pub extern "C" fn desk_list_module(
     texts: bool,
     out: &mut [u8],
     entries: &mut [u32],
-) -> DeskAnswer
+) -> Numbers
     ensures { λ r. ⌜ r ≡ numbersOf (report (listing.listModule (optionsOf offsets labels texts) (now (text .entry)) (now (bytes .entry)) (now (ends .entry)) (areaOf (now (functions .entry)) (now (area .entry)) base) (length (now (entries .entry)))) (length (now (out .entry)))) ⌝ }
     ensures { λ _. ⌜ now (out .exit) ≡ exitOf (listing.listModule (optionsOf offsets labels texts) (now (text .entry)) (now (bytes .entry)) (now (ends .entry)) (areaOf (now (functions .entry)) (now (area .entry)) base) (length (now (entries .entry)))) (now (out .entry)) ⌝ }
     ensures { λ _. ⌜ now (entries .exit) ≡ replicate (length (now (entries .entry))) 0 ⌝ }
@@ -234,24 +203,6 @@ pub extern "C" fn desk_list_module(
     ))
 }
 
-// The numbers of assembling's answer.
-pub fn assemble_numbers(a: AssembleAnswer) -> DeskAnswer
-    ensures { λ r. ⌜ r ≡ numbersOf (assembleReport a) ⌝ }
-{
-    match a {
-        AssembleAnswer::Done(n) => done(n),
-        AssembleAnswer::Malformed(line) => refused(1, line, 0),
-        AssembleAnswer::BadByte(line) => refused(2, line, 0),
-        AssembleAnswer::Long(line) => refused(3, line, 0),
-        AssembleAnswer::Unknown(line) => refused(4, line, 0),
-        AssembleAnswer::Count(line) => refused(5, line, 0),
-        AssembleAnswer::Operand(number, line, operand) => refused(number, line, operand),
-        AssembleAnswer::Fault(id) => refused(17, id, 0),
-        AssembleAnswer::TooLarge => refused(18, 0, 0),
-        AssembleAnswer::Short => refused(19, 0, 0),
-    }
-}
-
 // Assembles a text under the sheet `sheet` and a string table. A label entry is three words.
 #[no_mangle]
 pub extern "C" fn desk_assemble(
@@ -261,10 +212,17 @@ pub extern "C" fn desk_assemble(
     text: &[u8],
     out: &mut [u8],
     labels: &mut [Slot],
-) -> DeskAnswer
+) -> Numbers
     ensures { λ r. ⌜ r ≡ numbersOf (report (hasm.assemble (now (sheet .entry)) (now (bytes .entry)) (now (ends .entry)) (now (text .entry)) (length (now (labels .entry)))) (length (now (out .entry)))) ⌝ }
     ensures { λ _. ⌜ now (out .exit) ≡ exitOf (hasm.assemble (now (sheet .entry)) (now (bytes .entry)) (now (ends .entry)) (now (text .entry)) (length (now (labels .entry)))) (now (out .entry)) ⌝ }
     ensures { λ _. ⌜ now (labels .exit) ≡ replicate (length (now (labels .entry))) (0 ∷ 0 ∷ 0 ∷ []) ⌝ }
 {
-    assemble_numbers(assemble::operation::assemble(sheet, bytes, ends, text, out, labels))
+    assemble::answer::assemble_numbers(assemble::operation::assemble(
+        sheet,
+        bytes,
+        ends,
+        text,
+        out,
+        labels,
+    ))
 }

@@ -1,8 +1,11 @@
-// How an operation ends that has written its result: 18, then 19.
+// How an operation ends: a written result is measured, 18, then 19; and an answer as numbers.
+ghost use mathlib.Core.Path.{_≡_};
 ghost use mathlib.Core.List.{List};
 ghost use Prim.Native.Nat.{ℕ, _≤_};
 ghost use lib.ListN.{length};
 ghost use Rattle.lists.specs.Write.{Put};
+ghost use Rattle.spec_answers.specs.Report.{refusal, success};
+ghost use Rattle.endings.specs.Numbers.{numbersOf};
 ghost use Rattle.endings.specs.Ends.{Ended, measured, measuredReport};
 use slices::write::clear;
 
@@ -31,4 +34,35 @@ pub fn measure(k: usize, limit: usize, needed: usize, lent: usize, out: &mut [u8
         return Measured::Short;
     }
     Measured::Fits
+}
+
+// An answer's numbers: number, place and operand of a refusal, or three zeros and the length.
+#[repr(C)]
+pub struct Numbers {
+    pub number: u64,
+    pub place: u64,
+    pub operand: u64,
+    pub length: u64,
+}
+
+pub fn done(n: usize) -> Numbers
+    ensures { λ r. ⌜ r ≡ numbersOf (success n) ⌝ }
+{
+    Numbers {
+        number: 0,
+        place: 0,
+        operand: 0,
+        length: n as u64,
+    }
+}
+
+pub fn refused(number: u64, place: usize, operand: usize) -> Numbers
+    ensures { λ r. ⌜ r ≡ numbersOf (refusal number place operand) ⌝ }
+{
+    Numbers {
+        number,
+        place: place as u64,
+        operand: operand as u64,
+        length: 0,
+    }
 }

@@ -32,8 +32,9 @@ use Rattle.endings.proofs.EndLaws.{refused-end}
 use Rattle.job_reader.specs.ReaderAnswers.{textAnswer}
 use Rattle.job_reader.specs.declared.reader.TextAnswer.{TextAnswer}
 use Rattle.job_reader.specs.declared.reader.TextAnswer.the-variants.{From, BadLine}
-use Rattle.job.specs.Run.{Prints, numbersOf, toldBody}
-use Rattle.job.specs.declared.assemble_job.Numbers.{Numbers}
+use Rattle.endings.specs.Numbers.{numbersOf}
+use Rattle.job.specs.Run.{Prints, toldBody}
+use Rattle.endings.specs.declared.Numbers.{Numbers}
 use Rattle.job.proofs.InputLaws.{AreReady, AreRefused}
 use Rattle.job.proofs.PrintLaws.{refusal-prints, same-print}
 use Rattle.job.proofs.SoundLaws.{Sound, text-sound, assemble-sound}

@@ -7,7 +7,6 @@ use lib.ListN.{length, take}
 use Rattle.lists.specs.Choice.{pick}
 use Rattle.lists.specs.Write.{Put}
 use Rattle.spec_answers.specs.Report.{Report}
-use Rattle.job.specs.declared.assemble_job.Numbers.{Numbers}
 use Rattle.spec_job.specs.Printed.{refusedText, bodyText, printed}
 
 -- the most that a job prints: `body=`, two digits for each of the 65,536 output bytes, and LF
@@ -28,10 +27,6 @@ pub record Prints (p before after : List ℕ) (r : ℕ) : Type 0 where
 pub record Told (answer : Report) (before after : List ℕ) (r : ℕ) : Type 0 where
   pub stands : answer .number ≡ 0 → (after ≡ before) × (r ≡ answer .length)
   pub says : 0 < answer .number → Put before 0 (refusedText (answer .number) (answer .place) (answer .operand)) after r
-
--- a report's numbers, each in the field of its name
-abbrev pub numbersOf : Report → Numbers
-numbersOf r = record { number = r .number; place = r .place; operand = r .operand; length = r .length }
 
 -- an answer as it is printed where the body stands at the front of `out`
 unfoldable pub toldBody : Report → List ℕ → List ℕ

@@ -5,11 +5,10 @@ ghost use Prim.Native.Nat.{_≤_};
 ghost use lib.ListN.{length};
 ghost use Rattle.spec_sheet.specs.Line.{Op};
 ghost use Rattle.spec_sheet.specs.Sheet.{typeRows, infoRows};
-ghost use Rattle.spec_answers.specs.Report.{refusal, success};
 ghost use Rattle.spec_job.specs.Job.{withText};
 ghost use Rattle.spec_job.specs.Printed.{assembleEdition, printedJob};
 ghost use Rattle.assemble.specs.Answers.{assembleReport, Ended};
-ghost use Rattle.job.specs.Run.{Prints, numbersOf, toldBody};
+ghost use Rattle.job.specs.Run.{Prints, toldBody};
 use crate::print::refused;
 use assemble::answer::AssembleAnswer;
 use hasm_labels::slot::Slot;
@@ -67,64 +66,17 @@ fn assemble_edition(
     )
 }
 
-// Number, place and operand of a refusal, or three zeros and the length.
-pub struct Numbers {
-    pub number: u64,
-    pub place: usize,
-    pub operand: usize,
-    pub length: usize,
-}
-
-fn refusal_of(number: u64, place: usize, operand: usize) -> Numbers
-    ensures { λ r. ⌜ r ≡ numbersOf (refusal number place operand) ⌝ }
-{
-    Numbers {
-        number,
-        place,
-        operand,
-        length: 0,
-    }
-}
-
-fn done(n: usize) -> Numbers
-    ensures { λ r. ⌜ r ≡ numbersOf (success n) ⌝ }
-{
-    Numbers {
-        number: 0,
-        place: 0,
-        operand: 0,
-        length: n,
-    }
-}
-
-fn assemble_numbers(a: AssembleAnswer) -> Numbers
-    ensures { λ r. ⌜ r ≡ numbersOf (assembleReport a) ⌝ }
-{
-    match a {
-        AssembleAnswer::Done(n) => done(n),
-        AssembleAnswer::Malformed(line) => refusal_of(1, line, 0),
-        AssembleAnswer::BadByte(line) => refusal_of(2, line, 0),
-        AssembleAnswer::Long(line) => refusal_of(3, line, 0),
-        AssembleAnswer::Unknown(line) => refusal_of(4, line, 0),
-        AssembleAnswer::Count(line) => refusal_of(5, line, 0),
-        AssembleAnswer::Operand(number, line, operand) => refusal_of(number, line, operand),
-        AssembleAnswer::Fault(id) => refusal_of(17, id, 0),
-        AssembleAnswer::TooLarge => refusal_of(18, 0, 0),
-        AssembleAnswer::Short => refusal_of(19, 0, 0),
-    }
-}
-
 // Prints a body that was assembled at the front of `out`, or the line of a refusal.
 fn put_assembled(a: AssembleAnswer, out: &[u8], text: &mut [u8]) -> usize
     requires { ⌜ (assembleReport a .length ≤ length (now out)) × (length (now out) ≤ 65536) ⌝ }
     ensures { λ r. ⌜ Prints (toldBody (assembleReport a) (now (out .entry))) (now (text .entry)) (now (text .exit)) r ⌝ }
 {
-    let n = assemble_numbers(a);
+    let n = assemble::answer::assemble_numbers(a);
     if n.number == 0 {
-        let size = n.length;
+        let size = n.length as usize;
         return crate::print::put_body(text, 0, &out[0..size]);
     }
-    crate::print::put_refused(text, 0, n.number, n.place as u64, n.operand as u64)
+    crate::print::put_refused(text, 0, n.number, n.place, n.operand)
 }
 
 // Prints the body that the job's text comes to, under the edition that was read before it. The line `text=` stands at `at`.

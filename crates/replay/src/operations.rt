@@ -4,8 +4,8 @@ use crate::assembling::assemble;
 use crate::case::Head;
 use crate::lent::bytes_of;
 use crate::lent::words_of;
-use desk_host::DeskAnswer;
 use desk_parts::PartNumber;
+use endings::Numbers;
 use numbers::io::put_le;
 use numbers::io::read_le;
 use slices::write::clear;
@@ -13,7 +13,7 @@ use slices::write::clear;
 // The answer, or that label entries are not clear afterwards, or that there is no such operation or the input is not of its
 // form.
 pub enum Performed {
-    Answered(DeskAnswer),
+    Answered(Numbers),
     NotClear,
     Broken,
 }
@@ -89,7 +89,7 @@ fn value_read(n: PartNumber, lent: &mut [u8]) -> Performed {
 }
 
 fn answered(number: u64, length: u64) -> Performed {
-    Performed::Answered(DeskAnswer {
+    Performed::Answered(Numbers {
         number,
         place: 0,
         operand: 0,
@@ -98,7 +98,7 @@ fn answered(number: u64, length: u64) -> Performed {
 }
 
 // Whether an answer is the recorded one.
-pub fn same_answer(head: Head, a: DeskAnswer) -> bool {
+pub fn same_answer(head: Head, a: Numbers) -> bool {
     if head.number != a.number {
         return false;
     }

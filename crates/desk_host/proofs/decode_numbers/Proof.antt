@@ -1,7 +1,7 @@
 use mathlib.Core.Path.{ap, sym, _∙_}
 use Rattle.decode.specs.Bodies.{decodeReport}
 use Rattle.decode.specs.declared.instructions.DecodeAnswer.{DecodeAnswer}
-use Rattle.desk_host.specs.Numbers.{numbersOf}
+use Rattle.endings.specs.Numbers.{numbersOf}
 use borrow.Author.Needs.{needs}
 use Rattle.desk_host.proofs.decode_numbers.Statement.{statement}
 use Rattle.desk_host.proofs.decode_numbers.Tie as tie

@@ -1,7 +1,7 @@
 use mathlib.Core.Path.{ap, sym, _∙_}
 use Rattle.write_record.specs.Written.{encodeReport}
 use Rattle.write_record.specs.declared.record.EncodeAnswer.{EncodeAnswer}
-use Rattle.desk_host.specs.Numbers.{numbersOf}
+use Rattle.endings.specs.Numbers.{numbersOf}
 use borrow.Author.Needs.{needs}
 use Rattle.desk_host.proofs.encode_numbers.Statement.{statement}
 use Rattle.desk_host.proofs.encode_numbers.Tie as tie

@@ -1,7 +1,7 @@
 use mathlib.Core.Path.{ap, sym, _∙_}
 use Rattle.disasm.specs.Answers.{listReport}
 use Rattle.disasm.specs.declared.answer.ListAnswer.{ListAnswer}
-use Rattle.desk_host.specs.Numbers.{numbersOf}
+use Rattle.endings.specs.Numbers.{numbersOf}
 use borrow.Author.Needs.{needs}
 use Rattle.desk_host.proofs.list_numbers.Statement.{statement}
 use Rattle.desk_host.proofs.list_numbers.Tie as tie

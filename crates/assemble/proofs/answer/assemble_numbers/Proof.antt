@@ -1,10 +1,10 @@
 use mathlib.Core.Path.{ap, sym, _∙_}
 use Rattle.assemble.specs.Answers.{assembleReport}
 use Rattle.assemble.specs.declared.answer.AssembleAnswer.{AssembleAnswer}
-use Rattle.desk_host.specs.Numbers.{numbersOf}
+use Rattle.endings.specs.Numbers.{numbersOf}
 use borrow.Author.Needs.{needs}
-use Rattle.desk_host.proofs.assemble_numbers.Statement.{statement}
-use Rattle.desk_host.proofs.assemble_numbers.Tie as tie
+use Rattle.assemble.proofs.answer.assemble_numbers.Statement.{statement}
+use Rattle.assemble.proofs.answer.assemble_numbers.Tie as tie
 
 enum-known-a : tie.Need-enum-known-a
 enum-known-a c = search needs

@@ -8,8 +8,8 @@ use Rattle.spec_body.specs.Operation.{Outcome}
 use Rattle.spec_body.specs.Operation.Outcome.{refusedWith}
 use Rattle.spec_listing.specs.Edition.{Edition}
 use Rattle.spec_listing.specs.Operation.{underInputs}
-use Rattle.spec_hasm.specs.Assemble.{assembleText, entriesFor}
-use Rattle.spec_hasm.specs.Operation.{assembleOutcome, assemble}
+use Rattle.spec_hasm.specs.Operation.{assemble}
+use Rattle.assemble.specs.Passes.{textOutcome}
 use Rattle.hasm_operands.specs.Puts.{edition}
 use Rattle.spec_answers.specs.Report.{Report, zeros}
 use Rattle.endings.specs.Ends.{Ended}
@@ -20,7 +20,7 @@ use Rattle.inputs.proofs.EndedLaws.{read-on, refused-on}
 
 -- a text under an edition, whose largest opcode does not count
 abbrev pub textUnder : List ℕ → ℕ → Edition → ℕ → Outcome
-textUnder text lent e last = assembleOutcome lent (entriesFor e text) (assembleText e text)
+textUnder text lent e last = textOutcome e text lent
 
 module _ (sheet bytes ends text : List ℕ) (lent : ℕ) where
   pub assemble-large : 1048576 < length text → assemble sheet bytes ends text lent ≡ refusedWith 18 0 0
@@ -33,7 +33,7 @@ module _ (sheet bytes ends text : List ℕ) (lent : ℕ) where
 
 -- a text under inputs that were read
 pub read-text : (sheet bytes ends text : List ℕ) {types ops : List (List ℕ)} {last : ℕ} {before after : List ℕ} (lent : ℕ) {r : Report} → length text ≤ 1048576 → Given sheet bytes ends types ops (Ready last)
-    → Ended (assembleOutcome lent (entriesFor (edition sheet types ops bytes ends) text) (assembleText (edition sheet types ops bytes ends) text)) before after r
+    → Ended (textOutcome (edition sheet types ops bytes ends) text lent) before after r
     → Ended (assemble sheet bytes ends text lent) before after r
 read-text sheet bytes ends text lent h g e = rw (assemble-small sheet bytes ends text lent h) (read-on (textUnder text lent) g e)
 

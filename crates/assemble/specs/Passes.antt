@@ -1,12 +1,18 @@
--- What a pass over a text leaves for the next. Assumes nothing.
+-- What a text comes to, and what a pass over it leaves for the next. Assumes nothing.
 use mathlib.Core.Path.{_≡_}
 use mathlib.Core.List.{List}
 use Prim.Native.Nat.{ℕ, _≤_, _<_}
 use lib.ListN.{length, take}
+use Rattle.spec_body.specs.Operation.{Outcome}
 use Rattle.spec_listing.specs.Edition.{Edition}
-use Rattle.spec_hasm.specs.Assemble.{Assembled, codesOf, unlessBadName, labelsFrom, entriesFor}
+use Rattle.spec_hasm.specs.Assemble.{Assembled, codesOf, unlessBadName, labelsFrom, assembleText, entriesFor}
+use Rattle.spec_hasm.specs.Operation.{assembleOutcome}
 use Rattle.hasm_labels.specs.Slots.{labelsIn}
 use Rattle.hasm_operands.specs.Puts.{edition}
+
+-- what a text comes to where `lent` label entries are lent
+abbrev pub textOutcome : Edition → List ℕ → ℕ → Outcome
+textOutcome e text lent = assembleOutcome lent (entriesFor e text) (assembleText e text)
 
 -- neither 4 nor 5 refuses a line; `count` labels are taken, and the slots hold them where all fit
 pub record Named (e : Edition) (text : List ℕ) (count : ℕ) (slots : List (List ℕ)) : Type 0 where

@@ -3,12 +3,10 @@ ghost use mathlib.Core.Path.{_≡_};
 ghost use mathlib.Core.List.{[], _∷_};
 ghost use Prim.Native.Nat.{_≤_};
 ghost use lib.ListN.{length, replicate};
-ghost use Rattle.spec_hasm.specs.Assemble.{assembleText, entriesFor};
 ghost use Rattle.spec_hasm.specs.Operation as operation;
-ghost use Rattle.spec_hasm.specs.Operation.{assembleOutcome};
 ghost use Rattle.hasm_operands.specs.Puts.{edition};
 ghost use Rattle.assemble.specs.Answers.{Ended};
-ghost use Rattle.assemble.specs.Passes.{IdSpace};
+ghost use Rattle.assemble.specs.Passes.{textOutcome, IdSpace};
 use crate::answer::AssembleAnswer;
 use hasm_labels::slot::Slot;
 use inputs::Inputs;
@@ -39,7 +37,7 @@ pub fn assemble_under(
     labels: &mut [Slot],
 ) -> AssembleAnswer
     requires { ⌜ IdSpace (now «first_ids») (now «next_ids») (now ends) × (length (now text) ≤ 1048576) ⌝ }
-    ensures { λ r. ⌜ Ended (assembleOutcome (length (now (labels .entry))) (entriesFor (edition (now (source .entry)) (now (types .entry)) (now (ops .entry)) (now (bytes .entry)) (now (ends .entry))) (now (text .entry))) (assembleText (edition (now (source .entry)) (now (types .entry)) (now (ops .entry)) (now (bytes .entry)) (now (ends .entry))) (now (text .entry)))) (now (out .entry)) (now (out .exit)) r ⌝ }
+    ensures { λ r. ⌜ Ended (textOutcome (edition (now (source .entry)) (now (types .entry)) (now (ops .entry)) (now (bytes .entry)) (now (ends .entry))) (now (text .entry)) (length (now (labels .entry)))) (now (out .entry)) (now (out .exit)) r ⌝ }
     ensures { λ _. ⌜ now (labels .exit) ≡ replicate (length (now (labels .entry))) (0 ∷ 0 ∷ 0 ∷ []) ⌝ }
 {
     let a = crate::passes::assemble_text(

@@ -4,12 +4,11 @@ ghost use mathlib.Core.List.{List};
 ghost use Prim.Native.Nat.{ℕ, _≤_, _<_};
 ghost use lib.ListN.{length, take};
 ghost use Rattle.spec_hasm.specs.Text.{linesOf};
-ghost use Rattle.spec_hasm.specs.Assemble.{Assembled, unlessBadLine, assembleText, entriesFor};
-ghost use Rattle.spec_hasm.specs.Operation.{assembleOutcome};
+ghost use Rattle.spec_hasm.specs.Assemble.{Assembled, unlessBadLine};
 ghost use Rattle.names.specs.Keys.{NamesIndexed};
 ghost use Rattle.hasm_operands.specs.Puts.{edition};
 ghost use Rattle.assemble.specs.Answers.{Ended};
-ghost use Rattle.assemble.specs.Passes.{IdSpace, NamesGood};
+ghost use Rattle.assemble.specs.Passes.{textOutcome, IdSpace, NamesGood};
 use crate::answer::AssembleAnswer;
 use hasm_body::body::Bytes;
 use hasm_labels::pass::Names;
@@ -51,7 +50,7 @@ fn put_indexed(
 ) -> AssembleAnswer
     requires { ⌜ IdSpace (now «first_ids») (now «next_ids») (now ends) × (length (now text) ≤ 1048576) × NamesIndexed (now source) (now ops) (now heads) (now nexts) ⌝ }
     requires { ⌜ NamesGood (now source) (now types) (now ops) (now text) count (now labels) × ((rest : Assembled) → unlessBadLine 1 (linesOf (now text)) rest ≡ rest) ⌝ }
-    ensures { λ r. ⌜ Ended (assembleOutcome (length (now (labels .entry))) (entriesFor (edition (now (source .entry)) (now (types .entry)) (now (ops .entry)) (now (bytes .entry)) (now (ends .entry))) (now (text .entry))) (assembleText (edition (now (source .entry)) (now (types .entry)) (now (ops .entry)) (now (bytes .entry)) (now (ends .entry))) (now (text .entry)))) (now (out .entry)) (now (out .exit)) r ⌝ }
+    ensures { λ r. ⌜ Ended (textOutcome (edition (now (source .entry)) (now (types .entry)) (now (ops .entry)) (now (bytes .entry)) (now (ends .entry))) (now (text .entry)) (length (now (labels .entry)))) (now (out .entry)) (now (out .exit)) r ⌝ }
 {
     texts::index::index_texts(bytes, ends, first_ids, next_ids);
     let mut work = [0u8; 4096];
@@ -100,7 +99,7 @@ fn name_and_put(
 ) -> AssembleAnswer
     requires { ⌜ IdSpace (now «first_ids») (now «next_ids») (now ends) × (length (now text) ≤ 1048576) ⌝ }
     requires { ⌜ ((rest : Assembled) → unlessBadLine 1 (linesOf (now text)) rest ≡ rest) ⌝ }
-    ensures { λ r. ⌜ Ended (assembleOutcome (length (now (labels .entry))) (entriesFor (edition (now (source .entry)) (now (types .entry)) (now (ops .entry)) (now (bytes .entry)) (now (ends .entry))) (now (text .entry))) (assembleText (edition (now (source .entry)) (now (types .entry)) (now (ops .entry)) (now (bytes .entry)) (now (ends .entry))) (now (text .entry)))) (now (out .entry)) (now (out .exit)) r ⌝ }
+    ensures { λ r. ⌜ Ended (textOutcome (edition (now (source .entry)) (now (types .entry)) (now (ops .entry)) (now (bytes .entry)) (now (ends .entry))) (now (text .entry)) (length (now (labels .entry)))) (now (out .entry)) (now (out .exit)) r ⌝ }
 {
     let mut heads = name_heads();
     let mut nexts = [0u32; 256];
@@ -147,7 +146,7 @@ pub fn assemble_text(
     labels: &mut [Slot],
 ) -> AssembleAnswer
     requires { ⌜ IdSpace (now «first_ids») (now «next_ids») (now ends) × (length (now text) ≤ 1048576) ⌝ }
-    ensures { λ r. ⌜ Ended (assembleOutcome (length (now (labels .entry))) (entriesFor (edition (now (source .entry)) (now (types .entry)) (now (ops .entry)) (now (bytes .entry)) (now (ends .entry))) (now (text .entry))) (assembleText (edition (now (source .entry)) (now (types .entry)) (now (ops .entry)) (now (bytes .entry)) (now (ends .entry))) (now (text .entry)))) (now (out .entry)) (now (out .exit)) r ⌝ }
+    ensures { λ r. ⌜ Ended (textOutcome (edition (now (source .entry)) (now (types .entry)) (now (ops .entry)) (now (bytes .entry)) (now (ends .entry))) (now (text .entry)) (length (now (labels .entry)))) (now (out .entry)) (now (out .exit)) r ⌝ }
 {
     let c = hasm_text::lines::check_lines(text);
     match c {

@@ -1,3 +1,2 @@
-pub mod LabelLaws
 pub mod PassLaws
 pub mod OperationLaws

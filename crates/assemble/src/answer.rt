@@ -1,9 +1,5 @@
 // What assembling answers.
 ghost use mathlib.Core.Path.{_≡_};
-ghost use mathlib.Core.List.{List, [], _∷_};
-ghost use Prim.Native.Nat.{ℕ};
-ghost use lib.ListN.{length, replicate};
-ghost use Rattle.spec_answers.specs.Report.{refusal};
 ghost use Rattle.inputs.specs.Read.{inputsReport};
 ghost use Rattle.endings.specs.Ends.{measuredReport};
 ghost use Rattle.endings.specs.Numbers.{numbersOf};
@@ -12,7 +8,6 @@ use endings::Measured;
 use endings::Numbers;
 use endings::done;
 use endings::refused;
-use hasm_labels::slot::Slot;
 use inputs::Inputs;
 
 // What assembling answers. The definition assembleReport gives each case its number, place, operand and length.
@@ -67,16 +62,5 @@ pub fn refused_inputs(i: Inputs) -> AssembleAnswer
         Inputs::TooLarge => AssembleAnswer::TooLarge,
         Inputs::Fault(id) => AssembleAnswer::Fault(id),
         Inputs::Malformed(line) => AssembleAnswer::Malformed(line),
-    }
-}
-
-// Sets every label entry to 0.
-pub fn clear_labels(labels: &mut [Slot])
-    ensures { λ _. ⌜ now (labels .exit) ≡ replicate (length (now (labels .entry))) (0 ∷ 0 ∷ 0 ∷ []) ⌝ }
-{
-    let mut i: usize = 0;
-    while i < labels.len() {
-        labels[i] = [0, 0, 0];
-        i += 1;
     }
 }

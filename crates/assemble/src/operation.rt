@@ -9,6 +9,7 @@ ghost use Rattle.assemble.specs.Answers.{Ended};
 ghost use Rattle.assemble.specs.Passes.{textOutcome, IdSpace};
 use crate::answer::AssembleAnswer;
 use hasm_labels::slot::Slot;
+use hasm_labels::slot::clear_labels;
 use inputs::Inputs;
 use slices::write::clear;
 
@@ -52,7 +53,7 @@ pub fn assemble_under(
         out,
         labels,
     );
-    crate::answer::clear_labels(labels);
+    clear_labels(labels);
     a
 }
 
@@ -70,7 +71,7 @@ pub fn assemble(
 {
     if 1048576 < text.len() {
         clear(out);
-        crate::answer::clear_labels(labels);
+        clear_labels(labels);
         return AssembleAnswer::TooLarge;
     }
     let mut types = [[0u8; 8]; 256];
@@ -78,7 +79,7 @@ pub fn assemble(
     let i = inputs::read_inputs(sheet, bytes, ends, &mut types, &mut ops);
     let Inputs::Ready(_) = i else {
         clear(out);
-        crate::answer::clear_labels(labels);
+        clear_labels(labels);
         return crate::answer::refused_inputs(i);
     };
     if ends.len() <= 256 {

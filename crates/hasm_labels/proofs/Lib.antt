@@ -5,3 +5,4 @@ pub mod LineTurns
 pub mod NameLaws
 pub mod NamesLaws
 pub mod TargetLaws
+pub mod ClearLaws

@@ -7,7 +7,7 @@ use lib.ListN.{length, drop}
 use Rattle.lists.specs.Scan.{run}
 use Rattle.spec_listing.specs.Edition.{Edition}
 use Rattle.spec_hasm.specs.Text.{linesOf}
-use Rattle.spec_hasm.specs.Assemble.{Assembled, Code, LabelAt, codesFrom, codesOf, unlessBadName, sizeIn, holding, labelsFrom}
+use Rattle.spec_hasm.specs.Assemble.{Assembled, LabelAt, codesFrom, codesOf, unlessBadName, holding, labelsFrom}
 use Rattle.spec_hasm.specs.Assemble.Assembled.{refusedAt}
 use Rattle.hasm_text.specs.Lines.{notFeed}
 use Rattle.hasm_labels.specs.Holding.{waiting, Small, Noted}

@@ -5,7 +5,6 @@ use mathlib.Core.List.{List, [], _++_}
 use lib.ListN.{length, take}
 use Rattle.lists.specs.Choice.{pick}
 use Rattle.lists.specs.Scan.{part}
-use Rattle.lists.specs.Found.{Found}
 use Rattle.lists.specs.Found.Found.{found, missing}
 use Rattle.spec_hasm.specs.Assemble.{Label, LabelAt, holding, labelOffset}
 use Rattle.spec_hasm.specs.Assemble.Label.{none, called}

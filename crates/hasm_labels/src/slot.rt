@@ -1,8 +1,8 @@
-// One place of the label list. Only the two functions here know what it holds.
+// One place of the label list. Only the functions here know what it holds.
 ghost use mathlib.Core.Path.{_≡_};
 ghost use mathlib.Core.List.{List, [], _∷_};
 ghost use Prim.Native.Nat.{_<_};
-ghost use lib.ListN.{length, set};
+ghost use lib.ListN.{length, set, replicate};
 ghost use Rattle.hasm_labels.specs.Slots.{slotAt};
 
 // The start and the length of a label's text, and its offset.
@@ -33,5 +33,16 @@ pub fn put_slot(labels: &mut [Slot], k: usize, l: Entry)
 {
     if k < labels.len() {
         labels[k] = [l.start, l.size, l.offset];
+    }
+}
+
+// Sets every label entry to 0.
+pub fn clear_labels(labels: &mut [Slot])
+    ensures { λ _. ⌜ now (labels .exit) ≡ replicate (length (now (labels .entry))) (0 ∷ 0 ∷ 0 ∷ []) ⌝ }
+{
+    let mut i: usize = 0;
+    while i < labels.len() {
+        labels[i] = [0, 0, 0];
+        i += 1;
     }
 }

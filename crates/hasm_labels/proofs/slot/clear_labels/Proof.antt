@@ -1,4 +1,4 @@
-use Rattle.assemble.proofs.LabelLaws.{fill-entry}
+use Rattle.hasm_labels.proofs.ClearLaws.{fill-entry}
 use lib.ListN.{length, drop, replicate, length-set}
 use native.Mathlib.Omega.{arith}
 use Prim.Native.Nat.{_-_, _≤_}
@@ -6,8 +6,8 @@ use mathlib.Core.Path.{_≡_, _∙_}
 use lib.Seq.{drop-length}
 use mathlib.Core.List.{[], _∷_, _++_, append-nil}
 use borrow.Author.Needs.{needs}
-use Rattle.assemble.proofs.answer.clear_labels.Statement.{statement}
-use Rattle.assemble.proofs.answer.clear_labels.Tie as tie
+use Rattle.hasm_labels.proofs.slot.clear_labels.Statement.{statement}
+use Rattle.hasm_labels.proofs.slot.clear_labels.Tie as tie
 
 abbrev Inv-loop : tie.InvT-loop
 Inv-loop labels₀ i₀ labels i = (length labels ≡ length labels₀) × (i ≤ length labels₀) × (labels ≡ replicate i (0 ∷ 0 ∷ 0 ∷ []) ++ drop i labels₀)

@@ -1,7 +1,6 @@
 // The passes over a text, in document 01's order: 3 and 2, then 4 and 5, then 6 to 12, then 18 and 19.
 ghost use mathlib.Core.Path.{_≡_};
-ghost use mathlib.Core.List.{List};
-ghost use Prim.Native.Nat.{ℕ, _≤_, _<_};
+ghost use Prim.Native.Nat.{_≤_};
 ghost use lib.ListN.{length, take};
 ghost use Rattle.spec_hasm.specs.Text.{linesOf};
 ghost use Rattle.spec_hasm.specs.Assemble.{Assembled, unlessBadLine};

@@ -24,7 +24,7 @@ fn all_ids() -> [u32; 65536] {
 }
 
 // Assembles a text under the tables of a sheet, whose names are parts of `source`. The texts' index goes to the two slices of
-// ids.
+// ids and is left there, in a form that nobody has to know.
 pub fn assemble_under(
     first_ids: &mut [u32],
     next_ids: &mut [u32],

@@ -10,11 +10,9 @@ ghost use Rattle.write_record.specs.Written.{encodeReport};
 ghost use Rattle.endings.specs.Numbers.{numbersOf};
 ghost use Rattle.spec_listing.specs.Operation as listing;
 ghost use Rattle.listing.specs.Parts.{optionsOf};
-ghost use Rattle.disasm.specs.Answers.{listReport};
 ghost use Rattle.disasm.specs.Functions.{areaOf};
 ghost use Rattle.spec_hasm.specs.Operation as hasm;
 use decode::instructions::DecodeAnswer;
-use disasm::answer::ListAnswer;
 use endings::Numbers;
 use endings::done;
 use endings::refused;
@@ -86,23 +84,6 @@ pub extern "C" fn desk_encode(text: &[u8], words: &[u64], out: &mut [u8]) -> Num
     encode_numbers(encode::encode::encode(text, words, out))
 }
 
-// The numbers of listing's answer.
-pub fn list_numbers(a: ListAnswer) -> Numbers
-    ensures { λ r. ⌜ r ≡ numbersOf (listReport a) ⌝ }
-{
-    match a {
-        ListAnswer::Done(n) => done(n),
-        ListAnswer::Malformed(line) => refused(1, line, 0),
-        ListAnswer::Long(place) => refused(3, place, 0),
-        ListAnswer::Beyond(at) => refused(13, at, 0),
-        ListAnswer::Cut(at) => refused(14, at, 0),
-        ListAnswer::Fault(id) => refused(17, id, 0),
-        ListAnswer::TooLarge => refused(18, 0, 0),
-        ListAnswer::Short => refused(19, 0, 0),
-        ListAnswer::NoFunction(id) => refused(20, id, 0),
-    }
-}
-
 // Lists a body under the sheet `text` and a string table, with offsets, labels and texts shown or not.
 #[no_mangle]
 pub extern "C" fn desk_list(
@@ -120,7 +101,7 @@ pub extern "C" fn desk_list(
     ensures { λ _. ⌜ now (out .exit) ≡ exitOf (listing.list (optionsOf offsets labels texts) (now (text .entry)) (now (bytes .entry)) (now (ends .entry)) (now (body .entry)) (length (now (entries .entry)))) (now (out .entry)) ⌝ }
     ensures { λ _. ⌜ now (entries .exit) ≡ replicate (length (now (entries .entry))) 0 ⌝ }
 {
-    list_numbers(disasm::operation::list(
+    disasm::answer::list_numbers(disasm::operation::list(
         offsets,
         labels,
         texts,
@@ -153,7 +134,7 @@ pub extern "C" fn desk_list_function(
     ensures { λ _. ⌜ now (out .exit) ≡ exitOf (listing.listFunction (optionsOf offsets labels texts) (now (text .entry)) (now (bytes .entry)) (now (ends .entry)) (areaOf (now (functions .entry)) (now (area .entry)) base) id (length (now (entries .entry)))) (now (out .entry)) ⌝ }
     ensures { λ _. ⌜ now (entries .exit) ≡ replicate (length (now (entries .entry))) 0 ⌝ }
 {
-    list_numbers(disasm::function::list_function(
+    disasm::answer::list_numbers(disasm::function::list_function(
         offsets,
         labels,
         texts,
@@ -188,7 +169,7 @@ pub extern "C" fn desk_list_module(
     ensures { λ _. ⌜ now (out .exit) ≡ exitOf (listing.listModule (optionsOf offsets labels texts) (now (text .entry)) (now (bytes .entry)) (now (ends .entry)) (areaOf (now (functions .entry)) (now (area .entry)) base) (length (now (entries .entry)))) (now (out .entry)) ⌝ }
     ensures { λ _. ⌜ now (entries .exit) ≡ replicate (length (now (entries .entry))) 0 ⌝ }
 {
-    list_numbers(modules::module::list_module(
+    disasm::answer::list_numbers(modules::module::list_module(
         offsets,
         labels,
         texts,

@@ -1,16 +1,18 @@
-// What listing answers, and how a listing that was written ends.
+// What listing answers, its numbers, and how a listing that was written ends.
 ghost use mathlib.Core.Path.{_≡_};
 ghost use mathlib.Core.List.{List};
 ghost use Prim.Native.Nat.{ℕ};
-ghost use lib.ListN.{length};
-ghost use Rattle.spec_body.specs.Operation.{report, exitOf};
 ghost use Rattle.lists.specs.Write.{Put};
 ghost use Rattle.spec_listing.specs.Listing.{Listed};
 ghost use Rattle.spec_listing.specs.Listing.Listed.{listed};
 ghost use Rattle.spec_listing.specs.Operation.{listOutcome};
 ghost use Rattle.listing.specs.Bodies.{Written};
-ghost use Rattle.disasm.specs.Answers.{Ended};
+ghost use Rattle.endings.specs.Numbers.{numbersOf};
+ghost use Rattle.disasm.specs.Answers.{listReport, Ended};
 use endings::Measured;
+use endings::Numbers;
+use endings::done;
+use endings::refused;
 use listing::body::Part;
 use slices::write::clear;
 
@@ -25,6 +27,23 @@ pub enum ListAnswer {
     TooLarge,
     Short,
     NoFunction(usize),
+}
+
+// The numbers of listing's answer.
+pub fn list_numbers(a: ListAnswer) -> Numbers
+    ensures { λ r. ⌜ r ≡ numbersOf (listReport a) ⌝ }
+{
+    match a {
+        ListAnswer::Done(n) => done(n),
+        ListAnswer::Malformed(line) => refused(1, line, 0),
+        ListAnswer::Long(place) => refused(3, place, 0),
+        ListAnswer::Beyond(at) => refused(13, at, 0),
+        ListAnswer::Cut(at) => refused(14, at, 0),
+        ListAnswer::Fault(id) => refused(17, id, 0),
+        ListAnswer::TooLarge => refused(18, 0, 0),
+        ListAnswer::Short => refused(19, 0, 0),
+        ListAnswer::NoFunction(id) => refused(20, id, 0),
+    }
 }
 
 // The end of a listing of k bytes that needs `entries` label entries: 18, then 19.

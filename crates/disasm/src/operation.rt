@@ -4,7 +4,6 @@ ghost use mathlib.Core.List.{[]};
 ghost use Prim.Native.Nat.{_≤_};
 ghost use lib.ListN.{length, replicate};
 ghost use Rattle.spec_body.specs.Decode.{decodeBody};
-ghost use Rattle.spec_body.specs.Operation.{report, exitOf};
 ghost use Rattle.spec_listing.specs.Listing.{listDecoded};
 ghost use Rattle.spec_listing.specs.Operation as operation;
 ghost use Rattle.spec_listing.specs.Operation.{listOutcome};

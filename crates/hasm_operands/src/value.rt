@@ -4,7 +4,7 @@ ghost use mathlib.Core.List.{List};
 ghost use Prim.Native.Nat.{ℕ, _^_, _≤_, _<_};
 ghost use lib.ListN.{length};
 ghost use Rattle.lists.specs.Found as search;
-ghost use Rattle.spec_sheet.specs.Types.{familyOf, widthOf};
+ghost use Rattle.spec_sheet.specs.Types.{familyOf};
 ghost use Rattle.spec_hasm.specs.Token.{foundOr, targetIn, distanceTo, tokenValue};
 ghost use Rattle.slices.specs.Answers.{foundOf};
 ghost use Rattle.texts.specs.Keys.{TextsIndexed};

@@ -1,2 +1,3 @@
 pub mod UnderLaws
 pub mod EndedLaws
+pub mod TableLaws

@@ -1,22 +1,19 @@
 -- Outcomes under inputs, case by case. Assumes nothing.
 use mathlib.Core.Path.{_≡_, refl, ap, sym, _∙_}
-use mathlib.Core.Bool.{true, false}
 use mathlib.Core.List.{List}
 use Prim.Native.Nat.{ℕ, _-_}
 use native.Mathlib.Omega.{arith}
-use Rattle.lists.specs.Found.Found.{found, missing}
 use Rattle.spec_sheet.specs.Sheet.{sheetOf}
 use Rattle.spec_sheet.specs.Sheet.SheetRead.{sheet, malformed}
-use Rattle.spec_strings.specs.Table.{tooLarge, fault}
 use Rattle.spec_body.specs.Operation.{Outcome}
-use Rattle.spec_listing.specs.Edition.{Edition}
-use Rattle.spec_listing.specs.Operation.{unlessFault, underTable, underEdition, underInputs}
+use Rattle.spec_listing.specs.Operation.{underTable, underEdition, underInputs}
 use Rattle.sheet.specs.Sheets.{typesIn, infosIn}
 use Rattle.sheet.proofs.UnderSheet.{ReadAs, few-opcodes}
 use Rattle.inputs.specs.Read.{inputsReport, Under, SheetGiven, Given}
 use Rattle.inputs.specs.Read.Under.{ready, refused}
 use Rattle.inputs.specs.declared.Inputs.{Inputs}
-use Rattle.inputs.specs.declared.Inputs.the-variants.{Ready, TooLarge, Fault, Malformed}
+use Rattle.inputs.proofs.TableLaws.{AreRefused}
+use Rattle.inputs.specs.declared.Inputs.the-variants.{Ready, Malformed}
 
 -- a sheet that was read
 pub was-read : (text : List ℕ) (m : ℕ) (r : ReadAs (sheetOf text) m) (types ops : List (List ℕ)) → types ≡ typesIn (sheetOf text) → ops ≡ infosIn (sheetOf text)
@@ -32,22 +29,15 @@ unfolding underEdition inputsReport
 was-malformed text line types ops e bytes ends = refused 1 line (omega arith) (λ then. rw e) refl
 
 -- the table's refusals come first
-pub was-large : (text bytes ends : List ℕ) (types ops : List (List ℕ)) → tooLarge bytes ends ≡ true → Given text bytes ends types ops TooLarge
-unfolding underInputs underTable inputsReport
-was-large text bytes ends types ops e = refused 18 0 (omega arith) (λ then. rw e) refl
+pub table-refused : {text bytes ends : List ℕ} {types ops : List (List ℕ)} {i : Inputs} → AreRefused bytes ends i → Given text bytes ends types ops i
+unfolding underInputs
+table-refused w = refused (w .number) (w .place) (w .some) (λ then. w .stops _) (w .told)
 
-pub was-fault : (text bytes ends : List ℕ) (id : ℕ) (types ops : List (List ℕ)) → tooLarge bytes ends ≡ false → fault bytes ends ≡ found id → Given text bytes ends types ops (Fault id)
-unfolding underInputs underTable unlessFault inputsReport
-was-fault text bytes ends id types ops e f = refused 17 id (omega arith) (λ then. rw (e, f)) refl
-
-pub was-good : (text bytes ends : List ℕ) (types ops : List (List ℕ)) (r : Inputs) → tooLarge bytes ends ≡ false → fault bytes ends ≡ missing → SheetGiven text types ops r
-    → Given text bytes ends types ops r
-unfolding underInputs underTable unlessFault
-was-good text bytes ends types ops r e f g = by-case (g bytes ends)
+-- behind a good table the sheet decides
+pub table-ready : {text bytes ends : List ℕ} {types ops : List (List ℕ)} {r : Inputs} → ((rest : Outcome) → underTable bytes ends rest ≡ rest) → SheetGiven text types ops r → Given text bytes ends types ops r
+unfolding underInputs
+table-ready {text} {bytes} {ends} {types} {ops} {r} h g = by-case (g bytes ends)
   where
-    under : (then : Edition → ℕ → Outcome) → underInputs text bytes ends then ≡ underEdition (sheetOf text) text bytes ends then
-    under then = rw (e, f)
-
     by-case : Under text bytes ends (underEdition (sheetOf text) text bytes ends) types ops r → Under text bytes ends (underInputs text bytes ends) types ops r
-    by-case (ready os t o l k q) = ready os t o l (λ then. under then ∙ k then) q
-    by-case (refused n p l k q) = refused n p l (λ then. under then ∙ k then) q
+    by-case (ready os t o l k q) = ready os t o l (λ then. h _ ∙ k then) q
+    by-case (refused n p l k q) = refused n p l (λ then. h _ ∙ k then) q

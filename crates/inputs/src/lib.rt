@@ -1,6 +1,7 @@
 // The inputs that an operation takes beside its body or text: a string table and a sheet, with their refusals in order.
 ghost use mathlib.Core.Path.{_≡_};
 ghost use Rattle.inputs.specs.Read.{SheetGiven, Given};
+ghost use Rattle.inputs.specs.Tables.{tableInputs};
 use sheet::opcode::Sheet;
 use slices::search::Found;
 
@@ -23,6 +24,20 @@ fn read_tables(text: &[u8], types: &mut [[u8; 8]; 256], ops: &mut [[usize; 4]; 2
     }
 }
 
+// Looks at a string table under a sheet with this largest opcode: 18, then 17 by entry.
+pub fn table_inputs(last: usize, bytes: &[u8], ends: &[u32]) -> Inputs
+    ensures { λ r. ⌜ r ≡ tableInputs last (now (bytes .entry)) (now (ends .entry)) ⌝ }
+{
+    if strings::table::too_large(bytes, ends) {
+        return Inputs::TooLarge;
+    }
+    let f = strings::table::find_fault(bytes, ends);
+    match f {
+        Found::At(id) => Inputs::Fault(id),
+        Found::Missing => Inputs::Ready(last),
+    }
+}
+
 // Looks at the string table, then reads the sheet into its tables.
 pub fn read_inputs(
     text: &[u8],
@@ -33,12 +48,9 @@ pub fn read_inputs(
 ) -> Inputs
     ensures { λ r. ⌜ Given (now (text .entry)) (now (bytes .entry)) (now (ends .entry)) (now (types .exit)) (now (ops .exit)) r ⌝ }
 {
-    if strings::table::too_large(bytes, ends) {
-        return Inputs::TooLarge;
-    }
-    let f = strings::table::find_fault(bytes, ends);
-    match f {
-        Found::At(id) => Inputs::Fault(id),
-        Found::Missing => read_tables(text, types, ops),
-    }
+    let i = table_inputs(0, bytes, ends);
+    let Inputs::Ready(_) = i else {
+        return i;
+    };
+    read_tables(text, types, ops)
 }

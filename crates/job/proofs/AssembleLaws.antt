@@ -33,9 +33,10 @@ use Rattle.job_reader.specs.ReaderAnswers.{textAnswer}
 use Rattle.job_reader.specs.declared.reader.TextAnswer.{TextAnswer}
 use Rattle.job_reader.specs.declared.reader.TextAnswer.the-variants.{From, BadLine}
 use Rattle.endings.specs.Numbers.{numbersOf}
+use Rattle.endings.proofs.NumberLaws.{same-number, same-length}
 use Rattle.job.specs.Run.{Prints, toldBody}
 use Rattle.endings.specs.declared.Numbers.{Numbers}
-use Rattle.job.proofs.InputLaws.{AreReady, AreRefused}
+use Rattle.inputs.proofs.TableLaws.{AreReady, AreRefused}
 use Rattle.job.proofs.PrintLaws.{refusal-prints, same-print}
 use Rattle.job.proofs.SoundLaws.{Sound, text-sound, assemble-sound}
 use Rattle.job.proofs.SoundLaws.Sound.{whole, numbered}
@@ -56,12 +57,6 @@ module _ (job bytes ends source : List ℕ) (os : List Op) (before after : List 
   assemble-ready types ops last k lent w t o l e = rw (w .goes-on) (rw (sym t, sym o, sym l) e)
 
 -- an answer's numbers as they are printed
-pub same-length : {answer : Report} {n : Numbers} → n ≡ numbersOf answer → n .length ≡ answer .length
-same-length q = ap (λ (m : Numbers). m .length) q
-
-same-number : {answer : Report} {n : Numbers} → n ≡ numbersOf answer → n .number ≡ answer .number
-same-number q = ap (λ (m : Numbers). m .number) q
-
 module _ (answer : Report) (out before after : List ℕ) (r : ℕ) {n : Numbers} (q : n ≡ numbersOf answer) where
   pub body-told : {part : List ℕ} → n .number ≡ 0 → answer .length ≤ length out → length out ≤ 65536 → part ≡ take (n .length) out → Put before 0 (bodyText part) after r
       → length (bodyText part) ≡ 2 * length part + 6 → Prints (toldBody answer out) before after r

@@ -1,4 +1,3 @@
-pub mod InputLaws
 pub mod PrintLaws
 pub mod ReadLaws
 pub mod SoundLaws

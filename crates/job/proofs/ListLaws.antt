@@ -1,7 +1,7 @@
 -- What a job that lists a body prints. Assumes nothing.
 use mathlib.Core.Path.{_≡_, refl, ap, sym, _∙_}
 use mathlib.Core.List.{List, [], _∷_, _++_, append-assoc}
-use Prim.Native.Nat.{ℕ, zero, suc, _+_, _-_, _<_, _≤_}
+use Prim.Native.Nat.{ℕ, zero, suc, _+_, _-_, _≤_}
 use native.Mathlib.Nat.{zero-add}
 use native.Mathlib.Omega.{arith}
 use borrow.Author.Tests.{lt-ltb, le-ltb}
@@ -30,7 +30,10 @@ use Rattle.disasm.specs.Answers.{listReport, Ended}
 use Rattle.disasm.specs.declared.answer.ListAnswer.{ListAnswer}
 use Rattle.endings.proofs.EndLaws.{refused-end}
 use Rattle.job.specs.Run.{Prints, Told}
-use Rattle.job.proofs.InputLaws.{AreReady, AreRefused}
+use Rattle.endings.specs.Numbers.{numbersOf}
+use Rattle.endings.specs.declared.Numbers.{Numbers}
+use Rattle.endings.proofs.NumberLaws.{same-number, same-length}
+use Rattle.inputs.proofs.TableLaws.{AreReady, AreRefused}
 use Rattle.job.proofs.PrintLaws.{refusal-prints, same-print}
 use Rattle.job.proofs.ReadLaws.{BodyWas}
 use Rattle.job.proofs.SoundLaws.{Sound, list-sound}
@@ -125,9 +128,10 @@ unfolding jobRun formOf printedOf
 line-prints job {bad = bad} e w = rw e (refusal-prints 1 bad 0 w)
 
 -- the two ways to tell an answer
-module _ (answer : Report) (before after : List ℕ) (r : ℕ) where
-  pub tells-result : answer ≡ success r → after ≡ before → Told answer before after r
-  tells-result q e = rw q (record { stands = λ z. (e, refl); says = λ h. absurd (omega (arith, h)) })
+module _ (answer : Report) (before after : List ℕ) (r : ℕ) {n : Numbers} (q : n ≡ numbersOf answer) where
+  pub tells-result : n .number ≡ 0 → r ≡ n .length → after ≡ before → Told answer before after r
+  tells-result z l e =
+      record { stands = λ w. (e, l ∙ same-length q); says = λ h. absurd (omega (arith, h, z, same-number q)) }
 
-  pub tells-refusal : (number place : ℕ) → 0 < number → answer ≡ refusal number place 0 → Put before 0 (refusedText number place 0) after r → Told answer before after r
-  tells-refusal number place h q w = rw q (record { stands = λ z. absurd (omega (arith, h, z)); says = λ z. w })
+  pub tells-refusal : (n .number ≡ 0 → ⊥) → Put before 0 (refusedText (n .number) (n .place) (n .operand)) after r → Told answer before after r
+  tells-refusal z w = record { stands = λ e. absurd (z (same-number q ∙ e)); says = λ h. rw q at w }

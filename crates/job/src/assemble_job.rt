@@ -44,7 +44,7 @@ fn assemble_edition(
     ensures { λ r. ⌜ ((os : List Op) → now (types .entry) ≡ typeRows os → now (ops .entry) ≡ infoRows os → Ended (assembleEdition (now (job .entry)) (record { opcodes = os; bytes = now (bytes .entry); ends = now (ends .entry) }) (now (source .entry))) (now (out .entry)) (now (out .exit)) r) ⌝ }
     ensures { λ r. ⌜ assembleReport r .length ≤ length (now (out .entry)) ⌝ }
 {
-    let i = crate::tables::table_inputs(0, bytes, ends);
+    let i = inputs::table_inputs(0, bytes, ends);
     let Inputs::Ready(_) = i else {
         clear(out);
         return assemble::answer::refused_inputs(i);

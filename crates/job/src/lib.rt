@@ -3,4 +3,3 @@ pub mod assemble_job;
 pub mod list_job;
 pub mod print;
 pub mod run;
-pub mod tables;

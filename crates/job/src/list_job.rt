@@ -47,7 +47,7 @@ fn list_edition(
     requires { ⌜ length (now body) ≤ 65536 ⌝ }
     ensures { λ r. ⌜ ((os : List Op) → now (types .entry) ≡ typeRows os → now (ops .entry) ≡ infoRows os → above ≡ sheets.above 0 os → Ended (listEdition (now (job .entry)) (record { opcodes = os; bytes = now (bytes .entry); ends = now (ends .entry) }) (now (body .entry))) (now (out .entry)) (now (out .exit)) r) ⌝ }
 {
-    let i = crate::tables::table_inputs(largest_of(above), bytes, ends);
+    let i = inputs::table_inputs(largest_of(above), bytes, ends);
     let Inputs::Ready(last) = i else {
         clear(out);
         return disasm::operation::refused_inputs(i);
@@ -72,17 +72,11 @@ fn list_edition(
 fn put_listed(a: ListAnswer, text: &mut [u8]) -> usize
     ensures { λ r. ⌜ Told (listReport a) (now (text .entry)) (now (text .exit)) r ⌝ }
 {
-    match a {
-        ListAnswer::Done(n) => n,
-        ListAnswer::Malformed(line) => refused(text, 1, line),
-        ListAnswer::Long(place) => refused(text, 3, place),
-        ListAnswer::Beyond(at) => refused(text, 13, at),
-        ListAnswer::Cut(at) => refused(text, 14, at),
-        ListAnswer::Fault(id) => refused(text, 17, id),
-        ListAnswer::TooLarge => refused(text, 18, 0),
-        ListAnswer::Short => refused(text, 19, 0),
-        ListAnswer::NoFunction(id) => refused(text, 20, id),
+    let n = disasm::answer::list_numbers(a);
+    if n.number == 0 {
+        return n.length as usize;
     }
+    crate::print::put_refused(text, 0, n.number, n.place, n.operand)
 }
 
 // Prints the listing of a body. The text's front is the output that the program lends.

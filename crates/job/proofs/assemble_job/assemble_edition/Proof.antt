@@ -1,7 +1,7 @@
 use mathlib.Core.Path.{sym, _∙_}
 use native.Mathlib.Omega.{arith}
 use Rattle.inputs.proofs.EndedLaws.{not-ready}
-use Rattle.job.proofs.InputLaws.{were-ready, were-refused}
+use Rattle.inputs.proofs.TableLaws.{were-ready, were-refused}
 use Rattle.job.proofs.AssembleLaws.{assemble-refused, assemble-ready, assembled-length, refused-length}
 use borrow.Author.Needs.{needs}
 use Rattle.job.proofs.assemble_job.assemble_edition.Statement.{statement}

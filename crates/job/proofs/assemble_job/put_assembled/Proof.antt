@@ -1,6 +1,7 @@
+use Rattle.endings.proofs.NumberLaws.{same-length as same-length-of}
 use native.Mathlib.Omega.{arith}
 use Rattle.job.proofs.ReadLaws.{front}
-use Rattle.job.proofs.AssembleLaws.{same-length as same-length-of, body-told, number-told}
+use Rattle.job.proofs.AssembleLaws.{body-told, number-told}
 use borrow.Author.Needs.{needs}
 use Rattle.job.proofs.assemble_job.put_assembled.Statement.{statement}
 use Rattle.job.proofs.assemble_job.put_assembled.Tie as tie

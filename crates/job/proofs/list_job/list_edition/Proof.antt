@@ -1,6 +1,6 @@
 use mathlib.Core.Path.{sym, _∙_}
 use Rattle.inputs.proofs.EndedLaws.{not-ready}
-use Rattle.job.proofs.InputLaws.{were-ready, were-refused}
+use Rattle.inputs.proofs.TableLaws.{were-ready, were-refused}
 use Rattle.job.proofs.ListLaws.{list-refused, list-ready}
 use borrow.Author.Needs.{needs}
 use Rattle.job.proofs.list_job.list_edition.Statement.{statement}

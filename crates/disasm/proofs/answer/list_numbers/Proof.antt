@@ -1,10 +1,10 @@
 use mathlib.Core.Path.{ap, sym, _∙_}
 use Rattle.disasm.specs.Answers.{listReport}
 use Rattle.disasm.specs.declared.answer.ListAnswer.{ListAnswer}
 use Rattle.endings.specs.Numbers.{numbersOf}
 use borrow.Author.Needs.{needs}
-use Rattle.desk_host.proofs.list_numbers.Statement.{statement}
-use Rattle.desk_host.proofs.list_numbers.Tie as tie
+use Rattle.disasm.proofs.answer.list_numbers.Statement.{statement}
+use Rattle.disasm.proofs.answer.list_numbers.Tie as tie
 
 enum-known-a : tie.Need-enum-known-a
 enum-known-a c = search needs

@@ -1,9 +1,9 @@
-use Rattle.job.proofs.InputLaws.{too-large, faulty, all-good}
+use Rattle.inputs.proofs.TableLaws.{too-large, faulty, all-good}
 use Rattle.slices.proofs.SearchLaws.{was-at, was-missing}
 use mathlib.Core.Path.{sym, _∙_}
 use borrow.Author.Needs.{needs}
-use Rattle.job.proofs.tables.table_inputs.Statement.{statement}
-use Rattle.job.proofs.tables.table_inputs.Tie as tie
+use Rattle.inputs.proofs.table_inputs.Statement.{statement}
+use Rattle.inputs.proofs.table_inputs.Tie as tie
 
 too-large-requires : tie.Need-too-large-requires
 too-large-requires c κs = search needs

@@ -1,8 +1,8 @@
--- What a job's string table comes to. Assumes nothing.
+-- What a look at a string table answers. Assumes nothing.
 use mathlib.Core.Path.{_≡_, refl, sym, _∙_}
 use mathlib.Core.Bool.{Bool, true, false}
 use mathlib.Core.List.{List}
-use Prim.Native.Nat.{ℕ}
+use Prim.Native.Nat.{ℕ, _≤_}
 use native.Mathlib.Omega.{arith}
 use Rattle.lists.specs.Found.{Found}
 use Rattle.lists.specs.Found.Found.{found, missing}
@@ -11,10 +11,10 @@ use Rattle.spec_strings.specs.Table.{tooLarge, fault}
 use Rattle.spec_body.specs.Operation.{Outcome}
 use Rattle.spec_body.specs.Operation.Outcome.{refusedWith}
 use Rattle.spec_listing.specs.Operation.{unlessFault, underTable}
 use Rattle.inputs.specs.Read.{inputsReport}
 use Rattle.inputs.specs.declared.Inputs.{Inputs}
 use Rattle.inputs.specs.declared.Inputs.the-variants.{Ready, TooLarge, Fault}
-use Rattle.job.specs.Tables.{unlessFaulty, tableInputs}
+use Rattle.inputs.specs.Tables.{unlessFaulty, tableInputs}
 
 -- inputs that are ready, and inputs that are refused, whatever follows them
 pub record AreReady (last : ℕ) (bytes ends : List ℕ) (k : ℕ) : Type 0 where
@@ -24,6 +24,7 @@ pub record AreReady (last : ℕ) (bytes ends : List ℕ) (k : ℕ) : Type 0 wher
 pub record AreRefused (bytes ends : List ℕ) (i : Inputs) : Type 0 where
   pub number : ℕ
   pub place : ℕ
+  pub some : 1 ≤ number
   pub told : inputsReport i ≡ refusal number place 0
   pub stops : (rest : Outcome) → underTable bytes ends rest ≡ refusedWith number place 0
 
@@ -60,9 +61,9 @@ module _ (last : ℕ) (bytes ends : List ℕ) where
   were-refused i e n = first (tooLarge bytes ends) refl
     where
       second : tooLarge bytes ends ≡ false → (f : Found) → fault bytes ends ≡ f → AreRefused bytes ends i
-      second h (found id) q = record { number = 17; place = id; told = rw (sym e, sym (faulty h id q)) refl; stops = λ rest. rw (h, q) refl }
+      second h (found id) q = record { number = 17; place = id; some = omega arith; told = rw (sym e, sym (faulty h id q)) refl; stops = λ rest. rw (h, q) refl }
       second h missing q = absurd (n last (sym e ∙ sym (all-good h q)))
 
       first : (t : Bool) → tooLarge bytes ends ≡ t → AreRefused bytes ends i
-      first true h = record { number = 18; place = 0; told = rw (sym e, sym (too-large h)) refl; stops = λ rest. rw h refl }
+      first true h = record { number = 18; place = 0; some = omega arith; told = rw (sym e, sym (too-large h)) refl; stops = λ rest. rw h refl }
       first false h = second h (fault bytes ends) refl

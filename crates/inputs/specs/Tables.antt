@@ -1,12 +1,12 @@
--- What a job's string table comes to. Assumes nothing.
+-- What a look at a string table answers. Assumes nothing.
 use mathlib.Core.List.{List}
 use Prim.Native.Nat.{ℕ}
 use Rattle.lists.specs.Choice.{pick}
 use Rattle.lists.specs.Found.{Found}
 use Rattle.lists.specs.Found.Found.{found, missing}
 use Rattle.spec_strings.specs.Table.{tooLarge, fault}
 use Rattle.inputs.specs.declared.Inputs.{Inputs}
 use Rattle.inputs.specs.declared.Inputs.the-variants.{Ready, TooLarge, Fault}
 
 -- 17 and the entry, else the largest opcode
 unfoldable pub unlessFaulty : ℕ → Found → Inputs

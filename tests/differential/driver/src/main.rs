@@ -21,23 +21,47 @@ mod tally;
 mod texts;
 
 use random::Random;
+use std::collections::VecDeque;
+use std::sync::Mutex;
+
+/// One part of the comparison: how many answers it compared, and how many differ.
+type Part<'a> = Box<dyn FnOnce(&mut Random) -> (u64, u64) + Send + 'a>;
+
+/// Runs the parts on all processors. Each has a generator of its own, so that its inputs are the same whenever it runs.
+fn run_parts(r: &mut Random, parts: Vec<Part>) -> (u64, u64) {
+    let queue: VecDeque<(Part, Random)> = parts.into_iter().map(|p| (p, Random::new(r.next()))).collect();
+    let (queue, sums) = (Mutex::new(queue), Mutex::new((0, 0)));
+    let work = || loop {
+        let Some((part, mut own)) = queue.lock().unwrap().pop_front() else { return };
+        let (compared, differ) = part(&mut own);
+        let mut s = sums.lock().unwrap();
+        *s = (s.0 + compared, s.1 + differ);
+    };
+    let threads = std::thread::available_parallelism().map_or(1, |n| n.get());
+    std::thread::scope(|s| {
+        for _ in 0..threads {
+            std::thread::Builder::new().stack_size(64 << 20).spawn_scoped(s, work).unwrap();
+        }
+    });
+    sums.into_inner().unwrap()
+}
 
 fn compare(seed: u64, count: u64) -> bool {
     let mut r = Random::new(seed);
-    let sheets = sheets::for_run(&mut r);
-    let large = sheets::large(&mut r);
-    let parts = [
-        numbers::run(&mut r, count / 10),
-        texts::run(&mut r, count / 5),
-        decode::run(&mut r, count, &sheets, &large),
-        decode::run_functions(&mut r, count / 10, &sheets),
-        encode::run(&mut r, count, &sheets, &large),
-        listing::run(&mut r, count / 4, &sheets, &large),
-        modules::run(&mut r, count / 10, &sheets),
-        assemble::run(&mut r, count, &sheets, &large),
+    let (sheets, large) = (sheets::for_run(&mut r), sheets::large(&mut r));
+    let (sheets, large) = (&sheets[..], &large[..]);
+    // The longest first, so that the processors end together.
+    let parts: Vec<Part> = vec![
+        Box::new(move |r| assemble::run(r, count, sheets, large)),
+        Box::new(move |r| decode::run(r, count, sheets, large)),
+        Box::new(move |r| encode::run(r, count, sheets, large)),
+        Box::new(move |r| listing::run(r, count / 4, sheets, large)),
+        Box::new(move |r| modules::run(r, count / 10, sheets)),
+        Box::new(move |r| texts::run(r, count / 5)),
+        Box::new(move |r| numbers::run(r, count / 10)),
+        Box::new(move |r| decode::run_functions(r, count / 10, sheets)),
     ];
-    let compared: u64 = parts.iter().map(|p| p.0).sum();
-    let differ: u64 = parts.iter().map(|p| p.1).sum();
+    let (compared, differ) = run_parts(&mut r, parts);
     println!("seed {seed}, count {count}");
     println!("{compared} compared, {differ} differ");
     differ == 0

@@ -1,7 +1,7 @@
 // Opcode sheets of many shapes, each as the desk's text and as the Rust's format.
 
 use crate::random::Random;
-use hbc_decomp::opcode::{BytecodeFormat, OperandType};
+use hbc_decomp::opcode::BytecodeFormat;
 
 pub const TYPES: [(&str, usize); 12] = [
     ("Reg8", 1),
@@ -80,11 +80,6 @@ impl Sheet {
             body.extend(next);
         }
     }
-}
-
-pub fn type_of(t: usize) -> OperandType {
-    use OperandType::*;
-    [Reg8, Reg32, UInt8, UInt16, UInt32, UInt8S, UInt16S, UInt32S, Addr8, Addr32, Imm32, Double][t]
 }
 
 fn op(code: u8, name: &str, jump: bool, types: &[usize]) -> Op {

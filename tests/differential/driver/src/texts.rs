@@ -101,7 +101,7 @@ pub fn table_of(strings: &[String]) -> (Vec<u8>, Vec<u32>) {
 fn lookups(t: &mut Tally, r: &mut Random, count: u64) {
     let sheet = one_string();
     let letters = ['a', 'b', 'c'];
-    let mut text = |r: &mut Random, most: usize| -> String { (0..r.below(most)).map(|_| *r.pick(&letters)).collect() };
+    let text = |r: &mut Random, most: usize| -> String { (0..r.below(most)).map(|_| *r.pick(&letters)).collect() };
     let mut f = rust::file_of(&[]);
     for n in 0..count {
         let many = if n % 5000 == 0 { 65536 } else { r.below(12) };

@@ -9,8 +9,8 @@ use Rattle.spec_body.specs.Operation.Outcome.{refusedWith}
 use Rattle.spec_listing.specs.Edition.{Edition}
 use Rattle.spec_listing.specs.Operation.{underInputs}
 use Rattle.spec_hasm.specs.Operation.{assemble}
-use Rattle.assemble.specs.Passes.{textOutcome}
-use Rattle.hasm_operands.specs.Puts.{edition}
+use Rattle.assemble_passes.specs.Passes.{textOutcome}
+use Rattle.hasm_operands.specs.Editions.{edition}
 use Rattle.spec_answers.specs.Report.{Report, zeros}
 use Rattle.endings.specs.Ends.{Ended}
 use Rattle.inputs.specs.Read.{inputsReport, Given}

@@ -4,13 +4,13 @@ ghost use mathlib.Core.List.{[], _∷_};
 ghost use Prim.Native.Nat.{_≤_};
 ghost use lib.ListN.{length, replicate};
 ghost use Rattle.spec_hasm.specs.Operation as operation;
-ghost use Rattle.hasm_operands.specs.Puts.{edition};
-ghost use Rattle.assemble.specs.Answers.{Ended};
-ghost use Rattle.assemble.specs.Passes.{textOutcome, IdSpace};
-use crate::answer::AssembleAnswer;
-use hasm_labels::slot::Slot;
-use hasm_labels::slot::clear_labels;
+ghost use Rattle.hasm_operands.specs.Editions.{edition};
+ghost use Rattle.assemble_answer.specs.Answers.{Ended};
+ghost use Rattle.assemble_passes.specs.Passes.{textOutcome, IdSpace};
+use assemble_answer::AssembleAnswer;
+use clearing::clear_labels;
 use inputs::Inputs;
+use label_list::slot::Slot;
 use slices::write::clear;
 
 // Space for the index of the texts: a small table has a small one, as clearing a large one takes longer than a short text. No
@@ -21,40 +21,6 @@ fn few_ids() -> [u32; 256] {
 
 fn all_ids() -> [u32; 65536] {
     [0; 65536]
-}
-
-// Assembles a text under the tables of a sheet, whose names are parts of `source`. The texts' index goes to the two slices of
-// ids and is left there, in a form that nobody has to know.
-pub fn assemble_under(
-    first_ids: &mut [u32],
-    next_ids: &mut [u32],
-    source: &[u8],
-    types: &[[u8; 8]; 256],
-    ops: &[[usize; 4]; 256],
-    bytes: &[u8],
-    ends: &[u32],
-    text: &[u8],
-    out: &mut [u8],
-    labels: &mut [Slot],
-) -> AssembleAnswer
-    requires { ⌜ IdSpace (now «first_ids») (now «next_ids») (now ends) × (length (now text) ≤ 1048576) ⌝ }
-    ensures { λ r. ⌜ Ended (textOutcome (edition (now (source .entry)) (now (types .entry)) (now (ops .entry)) (now (bytes .entry)) (now (ends .entry))) (now (text .entry)) (length (now (labels .entry)))) (now (out .entry)) (now (out .exit)) r ⌝ }
-    ensures { λ _. ⌜ now (labels .exit) ≡ replicate (length (now (labels .entry))) (0 ∷ 0 ∷ 0 ∷ []) ⌝ }
-{
-    let a = crate::passes::assemble_text(
-        first_ids,
-        next_ids,
-        source,
-        types,
-        ops,
-        bytes,
-        ends,
-        text,
-        out,
-        labels,
-    );
-    clear_labels(labels);
-    a
 }
 
 // Assembles a text under a sheet given as text and a string table. A label entry is lent for each label that is taken.
@@ -80,12 +46,12 @@ pub fn assemble(
     let Inputs::Ready(_) = i else {
         clear(out);
         clear_labels(labels);
-        return crate::answer::refused_inputs(i);
+        return assemble_answer::refused_inputs(i);
     };
     if ends.len() <= 256 {
         let mut few_first = few_ids();
         let mut few_next = few_ids();
-        return assemble_under(
+        return assemble_passes::assemble_under(
             &mut few_first,
             &mut few_next,
             sheet,
@@ -100,7 +66,7 @@ pub fn assemble(
     }
     let mut first_ids = all_ids();
     let mut next_ids = all_ids();
-    assemble_under(
+    assemble_passes::assemble_under(
         &mut first_ids,
         &mut next_ids,
         sheet,

@@ -10,10 +10,11 @@ use Rattle.spec_body.specs.Decode.{Decoded}
 use Rattle.spec_body.specs.Decode.Decoded.{decoded, beyond, cut}
 use Rattle.spec_body.specs.Operation.{report, exitOf, Outcome, decodeOutcome}
 use Rattle.spec_body.specs.Operation.Outcome.{refusedWith}
-use Rattle.decode.specs.Bodies.{bodyOf, decodeReport}
-use Rattle.decode.specs.declared.instructions.Body.the-variants.{Records, Beyond, Cut}
-use Rattle.decode.specs.declared.instructions.DecodeAnswer.{DecodeAnswer}
-use Rattle.decode.specs.declared.instructions.DecodeAnswer.the-variants as answer
+use Rattle.decode_body.specs.Bodies.{bodyOf}
+use Rattle.decode_answer.specs.Answers.{decodeReport}
+use Rattle.decode_body.specs.declared.Body.the-variants.{Records, Beyond, Cut}
+use Rattle.decode_answer.specs.declared.DecodeAnswer.{DecodeAnswer}
+use Rattle.decode_answer.specs.declared.DecodeAnswer.the-variants as answer
 
 -- an answer and the lent words afterwards
 pub record Ends (o : Outcome) (r : DecodeAnswer) (out out′ : List ℕ) : Type 0 where

@@ -1,20 +1,16 @@
 -- The operations of decoding, case by case. Assumes nothing.
 use mathlib.Core.Path.{_≡_, sym}
-use mathlib.Core.Bool.{true, false}
 use mathlib.Core.List.{List}
-use Prim.Native.Nat.{ℕ, _+_, _-_, _*_, _≤_, _<_}
-use native.Mathlib.Omega.{arith}
-use lib.Dec.{leb, ltb}
-use Rattle.lists.specs.Choice.{both}
+use Prim.Native.Nat.{ℕ, _-_, _≤_, _<_}
 use lib.ListN.{length}
-use Rattle.lists.proofs.Tests.{both-left, both-right}
-use borrow.Author.Tests.{lt-ltb, le-ltb, le-leb, lt-leb, ltb-true, leb-true}
+use mathlib.Core.Bool.{true, false}
+use borrow.Author.Tests.{lt-ltb, le-ltb}
 use Rattle.spec_sheet.specs.Sheet.{SheetRead, sheetOf}
-use Rattle.spec_sheet.specs.Sheet.SheetRead.{sheet, malformed}
+use Rattle.spec_sheet.specs.Sheet.SheetRead.{malformed}
 use Rattle.sheet.specs.Sheets.{typesIn}
 use Rattle.sheet.proofs.UnderSheet.{ReadAs}
 use Rattle.spec_body.specs.Decode.{decodeBody}
-use Rattle.spec_body.specs.Function.{inArea, offsetOf, sizeOf, functionCount, bodyOf}
+use Rattle.spec_body.specs.Function.{inArea, sizeOf, bodyOf}
 use Rattle.spec_body.specs.Operation.{Outcome, decodeOutcome, underSheet, functionOutcome, decode}
 use Rattle.spec_body.specs.Operation.Outcome.{refusedWith}
 
@@ -36,44 +32,15 @@ module _ (text body : List ℕ) where
   unfolding decode
   decode-small h = rw (le-ltb 65536 (length body) h)
 
-module _ (functions area : List ℕ) (base id : ℕ) where
-  -- 20, each way
-  pub no-such : functionCount functions ≤ id → inArea functions area base id ≡ false
-  unfolding inArea
-  no-such h = rw (le-ltb id (functionCount functions) h)
+module _ (functions area : List ℕ) (base id : ℕ) (types : List (List ℕ)) (last : ℕ) where
+  pub function-none : inArea functions area base id ≡ false → functionOutcome types last functions area base id ≡ refusedWith 20 id 0
+  unfolding functionOutcome
+  function-none e = rw e
 
-  pub below-base : id < functionCount functions → offsetOf functions id < base → inArea functions area base id ≡ false
-  unfolding inArea
-  below-base h k = rw (lt-ltb id (functionCount functions) h, lt-leb base (offsetOf functions id) k)
+  pub function-large : inArea functions area base id ≡ true → 65536 < sizeOf functions id → functionOutcome types last functions area base id ≡ refusedWith 18 0 0
+  unfolding functionOutcome
+  function-large e h = rw (e, lt-ltb 65536 (sizeOf functions id) h)
 
-  pub by-end : (n : ℕ) → n ≡ offsetOf functions id - base + sizeOf functions id → id < functionCount functions → base ≤ offsetOf functions id → leb n (length area) ≡ inArea functions area base id
-  unfolding inArea
-  by-end n e h k = rw (e, lt-ltb id (functionCount functions) h, le-leb base (offsetOf functions id) k)
-
-  pub inside-count : inArea functions area base id ≡ true → id < functionCount functions
-  unfolding inArea
-  inside-count e = ltb-true id (functionCount functions) (both-left _ _ e)
-
-  pub inside-base : inArea functions area base id ≡ true → base ≤ offsetOf functions id
-  unfolding inArea
-  inside-base e =
-      let rest : both (leb base (offsetOf functions id)) (leb (offsetOf functions id - base + sizeOf functions id) (length area)) ≡ true =
-      both-right (ltb id (functionCount functions)) _ e in
-      leb-true base (offsetOf functions id) (both-left _ _ rest)
-
-  -- the triple of a function that is inside
-  pub triple : inArea functions area base id ≡ true → 3 * id + 2 < length functions
-  triple e = omega (arith, inside-count e)
-
-  module _ (types : List (List ℕ)) (last : ℕ) where
-    pub function-none : inArea functions area base id ≡ false → functionOutcome types last functions area base id ≡ refusedWith 20 id 0
-    unfolding functionOutcome
-    function-none e = rw e
-
-    pub function-large : inArea functions area base id ≡ true → 65536 < sizeOf functions id → functionOutcome types last functions area base id ≡ refusedWith 18 0 0
-    unfolding functionOutcome
-    function-large e h = rw (e, lt-ltb 65536 (sizeOf functions id) h)
-
-    pub function-body : inArea functions area base id ≡ true → sizeOf functions id ≤ 65536 → functionOutcome types last functions area base id ≡ decodeOutcome (decodeBody types last (bodyOf functions area base id))
-    unfolding functionOutcome
-    function-body e h = rw (e, le-ltb 65536 (sizeOf functions id) h)
+  pub function-body : inArea functions area base id ≡ true → sizeOf functions id ≤ 65536 → functionOutcome types last functions area base id ≡ decodeOutcome (decodeBody types last (bodyOf functions area base id))
+  unfolding functionOutcome
+  function-body e h = rw (e, le-ltb 65536 (sizeOf functions id) h)

@@ -1,4 +1,2 @@
-pub mod StoreLaws
-pub mod BodyLoop
 pub mod BodyAnswers
 pub mod DecodeCases

@@ -5,50 +5,15 @@ ghost use mathlib.Core.List.{[], _∷_};
 ghost use lib.ListN.{length, replicate};
 ghost use Rattle.spec_body.specs.Operation as operation;
 ghost use Rattle.spec_body.specs.Operation.{report, exitOf};
-ghost use Rattle.decode.specs.Bodies.{decodeReport};
-ghost use Rattle.write_record.specs.Written.{encodeReport};
 ghost use Rattle.endings.specs.Numbers.{numbersOf};
 ghost use Rattle.spec_listing.specs.Operation as listing;
-ghost use Rattle.listing.specs.Parts.{optionsOf};
-ghost use Rattle.disasm.specs.Functions.{areaOf};
+ghost use Rattle.body_lines.specs.Parts.{optionsOf};
+ghost use Rattle.disasm_function.specs.Functions.{areaOf};
 ghost use Rattle.spec_hasm.specs.Operation as hasm;
-use decode::instructions::DecodeAnswer;
+use decode_answer::decode_numbers;
+use encode_answer::encode_numbers;
 use endings::Numbers;
-use endings::done;
-use endings::refused;
-use hasm_labels::slot::Slot;
-use write_record::record::EncodeAnswer;
-
-// The numbers of decoding's answer.
-pub fn decode_numbers(a: DecodeAnswer) -> Numbers
-    ensures { λ r. ⌜ r ≡ numbersOf (decodeReport a) ⌝ }
-{
-    match a {
-        DecodeAnswer::Done(n) => done(n),
-        DecodeAnswer::Malformed(line) => refused(1, line, 0),
-        DecodeAnswer::TooLarge => refused(18, 0, 0),
-        DecodeAnswer::NoFunction(id) => refused(20, id, 0),
-        DecodeAnswer::Beyond(at) => refused(13, at, 0),
-        DecodeAnswer::Cut(at) => refused(14, at, 0),
-        DecodeAnswer::Short => refused(19, 0, 0),
-    }
-}
-
-// The numbers of encoding's answer.
-pub fn encode_numbers(a: EncodeAnswer) -> Numbers
-    ensures { λ r. ⌜ r ≡ numbersOf (encodeReport a) ⌝ }
-{
-    match a {
-        EncodeAnswer::Done(n) => done(n),
-        EncodeAnswer::Malformed(line) => refused(1, line, 0),
-        EncodeAnswer::Shape(i) => refused(15, i, 0),
-        EncodeAnswer::Beyond(i) => refused(13, i, 0),
-        EncodeAnswer::Count(i) => refused(5, i, 0),
-        EncodeAnswer::Misfit(i, q) => refused(15, i, q),
-        EncodeAnswer::TooLarge => refused(18, 0, 0),
-        EncodeAnswer::Short => refused(19, 0, 0),
-    }
-}
+use label_list::slot::Slot;
 
 // Decodes a body under the sheet `text` into records of 20 words.
 #[no_mangle]
@@ -101,7 +66,7 @@ pub extern "C" fn desk_list(
     ensures { λ _. ⌜ now (out .exit) ≡ exitOf (listing.list (optionsOf offsets labels texts) (now (text .entry)) (now (bytes .entry)) (now (ends .entry)) (now (body .entry)) (length (now (entries .entry)))) (now (out .entry)) ⌝ }
     ensures { λ _. ⌜ now (entries .exit) ≡ replicate (length (now (entries .entry))) 0 ⌝ }
 {
-    disasm::answer::list_numbers(disasm::operation::list(
+    list_answer::list_numbers(disasm::operation::list(
         offsets,
         labels,
         texts,
@@ -134,7 +99,7 @@ pub extern "C" fn desk_list_function(
     ensures { λ _. ⌜ now (out .exit) ≡ exitOf (listing.listFunction (optionsOf offsets labels texts) (now (text .entry)) (now (bytes .entry)) (now (ends .entry)) (areaOf (now (functions .entry)) (now (area .entry)) base) id (length (now (entries .entry)))) (now (out .entry)) ⌝ }
     ensures { λ _. ⌜ now (entries .exit) ≡ replicate (length (now (entries .entry))) 0 ⌝ }
 {
-    disasm::answer::list_numbers(disasm::function::list_function(
+    list_answer::list_numbers(disasm_function::list_function(
         offsets,
         labels,
         texts,
@@ -169,7 +134,7 @@ pub extern "C" fn desk_list_module(
     ensures { λ _. ⌜ now (out .exit) ≡ exitOf (listing.listModule (optionsOf offsets labels texts) (now (text .entry)) (now (bytes .entry)) (now (ends .entry)) (areaOf (now (functions .entry)) (now (area .entry)) base) (length (now (entries .entry)))) (now (out .entry)) ⌝ }
     ensures { λ _. ⌜ now (entries .exit) ≡ replicate (length (now (entries .entry))) 0 ⌝ }
 {
-    disasm::answer::list_numbers(modules::module::list_module(
+    list_answer::list_numbers(modules::module::list_module(
         offsets,
         labels,
         texts,
@@ -198,7 +163,7 @@ pub extern "C" fn desk_assemble(
     ensures { λ _. ⌜ now (out .exit) ≡ exitOf (hasm.assemble (now (sheet .entry)) (now (bytes .entry)) (now (ends .entry)) (now (text .entry)) (length (now (labels .entry)))) (now (out .entry)) ⌝ }
     ensures { λ _. ⌜ now (labels .exit) ≡ replicate (length (now (labels .entry))) (0 ∷ 0 ∷ 0 ∷ []) ⌝ }
 {
-    assemble::answer::assemble_numbers(assemble::operation::assemble(
+    assemble_answer::assemble_numbers(assemble::operation::assemble(
         sheet,
         bytes,
         ends,

@@ -1,3 +1,1 @@
-pub mod EndLaws
 pub mod OperationLaws
-pub mod FunctionLaws

@@ -7,23 +7,12 @@ ghost use Rattle.spec_body.specs.Decode.{decodeBody};
 ghost use Rattle.spec_listing.specs.Listing.{listDecoded};
 ghost use Rattle.spec_listing.specs.Operation as operation;
 ghost use Rattle.spec_listing.specs.Operation.{listOutcome};
-ghost use Rattle.listing.specs.Parts.{optionsOf, editionOf};
-ghost use Rattle.disasm.specs.Answers.{listReport, Ended};
-use crate::answer::ListAnswer;
+ghost use Rattle.body_lines.specs.Parts.{optionsOf, editionOf};
+ghost use Rattle.list_answer.specs.Answers.{listReport, Ended};
+use list_answer::ListAnswer;
 ghost use Rattle.inputs.specs.Read.{inputsReport};
 use inputs::Inputs;
 use slices::write::clear;
-
-// Sets every label entry to 0.
-pub fn clear_entries(entries: &mut [u32])
-    ensures { λ _. ⌜ now (entries .exit) ≡ replicate (length (now (entries .entry))) 0 ⌝ }
-{
-    let mut i: usize = 0;
-    while i < entries.len() {
-        entries[i] = 0;
-        i += 1;
-    }
-}
 
 // Lists a body under the tables of a sheet, whose names are parts of `source`.
 pub fn list_under(
@@ -58,7 +47,7 @@ pub fn list_under(
         out,
         0,
     );
-    crate::answer::finish(p, lent, out)
+    list_answer::finish(p, lent, out)
 }
 
 // What inputs that are refused answer.
@@ -88,7 +77,7 @@ pub fn list(
     ensures { λ r. ⌜ Ended (operation.list (optionsOf offsets labels texts) (now (text .entry)) (now (bytes .entry)) (now (ends .entry)) (now (body .entry)) (length (now (entries .entry)))) (now (out .entry)) (now (out .exit)) r ⌝ }
     ensures { λ _. ⌜ now (entries .exit) ≡ replicate (length (now (entries .entry))) 0 ⌝ }
 {
-    clear_entries(entries);
+    clearing::clear_entries(entries);
     if 65536 < body.len() {
         clear(out);
         return ListAnswer::TooLarge;

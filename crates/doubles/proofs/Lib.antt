@@ -1,3 +1,2 @@
 pub mod NanLaws
 pub mod PlaceLaws
-pub mod ReadLaws

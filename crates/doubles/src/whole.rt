@@ -1,9 +1,9 @@
 // The whole doubles up to 2^53 in size, to and from their bits.
 ghost use mathlib.Core.Path.{_≡_};
 ghost use Prim.Native.Nat.{_^_, _≤_};
-ghost use Rattle.numbers.specs.Answers.{numberOf};
+ghost use Rattle.parse_numbers.specs.Answers.{numberOf};
 ghost use Rattle.spec_numbers.specs.Double.{wholeOf, bitsOfWhole};
-use numbers::parse::Number;
+use parse_numbers::Number;
 
 // A double's size, where that is a whole number up to 2^53.
 pub fn whole_of(bits: u64) -> Number

@@ -17,12 +17,12 @@ use Rattle.spec_body.specs.Operation.{Outcome, bodyLimit, encodeOutcome, underS
 use Rattle.spec_body.specs.Operation.Outcome.{refusedWith}
 use Rattle.sheet.specs.Sheets.{sheetAnswer, typesIn}
 use Rattle.sheet.specs.declared.opcode.Sheet.the-variants.{Read, Malformed}
-use Rattle.write_record.specs.Written.{encodeReport}
+use Rattle.encode_answer.specs.Answers.{encodeReport}
 use Rattle.encode.specs.Encoding.{Encoding}
 use Rattle.encode.specs.Encoding.Encoding.{all, refuses}
-use Rattle.write_record.specs.declared.record.EncodeAnswer.{EncodeAnswer}
-use Rattle.write_record.specs.declared.record.EncodeAnswer.the-variants.{Done, TooLarge, Short}
-use Rattle.write_record.specs.declared.record.EncodeAnswer.the-variants as variants
+use Rattle.encode_answer.specs.declared.EncodeAnswer.{EncodeAnswer}
+use Rattle.encode_answer.specs.declared.EncodeAnswer.the-variants.{Done, TooLarge, Short}
+use Rattle.encode_answer.specs.declared.EncodeAnswer.the-variants as variants
 use Rattle.encode.proofs.RecordsLoop.{not-done}
 
 -- the answer and the lent space afterwards are those of an outcome

@@ -13,14 +13,15 @@ use Rattle.lists.proofs.Tests.{by-eqb}
 use Rattle.spec_answers.specs.Report.{Report, refusal}
 use Rattle.spec_body.specs.Encode.{Encoded, appendTo, encodeRecord, encodeFrom, encodeRecords}
 use Rattle.spec_body.specs.Encode.Encoded.{encoded, refused}
-use Rattle.write_operands.specs.Ahead.{recordAt, Ahead}
-use Rattle.write_record.specs.Written.{Turn, encodeReport}
+use Rattle.plain_records.specs.Ahead.{recordAt, Ahead}
+use Rattle.write_record.specs.Written.{Turn}
+use Rattle.encode_answer.specs.Answers.{encodeReport}
 use Rattle.encode.specs.Encoding.{Encoding}
-use Rattle.write_operands.proofs.AheadLaws.{_and-then_, not-ahead, none-ahead, more-ahead}
+use Rattle.plain_records.proofs.AheadLaws.{_and-then_, not-ahead, none-ahead, more-ahead}
 use Rattle.write_record.specs.Written.Turn.{went, stopped}
 use Rattle.encode.specs.Encoding.Encoding.{all, refuses}
-use Rattle.write_record.specs.declared.record.EncodeAnswer.{EncodeAnswer}
-use Rattle.write_record.specs.declared.record.EncodeAnswer.the-variants.{Done, Shape}
+use Rattle.encode_answer.specs.declared.EncodeAnswer.{EncodeAnswer}
+use Rattle.encode_answer.specs.declared.EncodeAnswer.the-variants.{Done, Shape}
 
 append-none : (x : Encoded) → appendTo [] x ≡ x
 unfolding appendTo

@@ -6,9 +6,9 @@ use Rattle.lists.specs.Write.{Put}
 use Rattle.spec_answers.specs.Report.{refusal}
 use Rattle.spec_body.specs.Encode.{Encoded}
 use Rattle.spec_body.specs.Encode.Encoded.{encoded, refused}
-use Rattle.write_record.specs.Written.{encodeReport}
-use Rattle.write_record.specs.declared.record.EncodeAnswer.{EncodeAnswer}
-use Rattle.write_record.specs.declared.record.EncodeAnswer.the-variants.{Done}
+use Rattle.encode_answer.specs.Answers.{encodeReport}
+use Rattle.encode_answer.specs.declared.EncodeAnswer.{EncodeAnswer}
+use Rattle.encode_answer.specs.declared.EncodeAnswer.the-variants.{Done}
 
 -- all records, which come to x, were written from the front of the buffer: it was `out` and is `out′`, and r was answered
 pub data Encoding (x : Encoded) (out out′ : List ℕ) (r : EncodeAnswer) : Type 0 where

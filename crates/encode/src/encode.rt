@@ -6,10 +6,10 @@ ghost use lib.ListN.{length};
 ghost use Rattle.spec_body.specs.Encode.{encodeRecords};
 ghost use Rattle.spec_body.specs.Operation as operation;
 ghost use Rattle.spec_body.specs.Operation.{encodeOutcome, report, exitOf};
-ghost use Rattle.write_record.specs.Written.{encodeReport};
+ghost use Rattle.encode_answer.specs.Answers.{encodeReport};
 ghost use Rattle.encode.specs.Encoding.{Encoding};
+use encode_answer::EncodeAnswer;
 use sheet::opcode::Sheet;
-use write_record::record::EncodeAnswer;
 
 // Writes all records: how many bytes they have, or the first refusal.
 fn encode_records(
@@ -21,8 +21,8 @@ fn encode_records(
     requires { ⌜ last ≤ 255 ⌝ }
     ensures { λ r. ⌜ Encoding (encodeRecords (now (types .entry)) last (now (words .entry))) (now (out .entry)) (now (out .exit)) r ⌝ }
 {
-    let codes = write_operands::plain::code_table();
-    let counts = write_operands::plain::plain_counts(types, last);
+    let codes = plain_records::code_table();
+    let counts = plain_records::plain_counts(types, last);
     let n = words.len() / 20;
     let mut k: usize = 0;
     let mut i: usize = 0;

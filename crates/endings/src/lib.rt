@@ -2,7 +2,6 @@
 ghost use mathlib.Core.Path.{_≡_};
 ghost use mathlib.Core.List.{List};
 ghost use Prim.Native.Nat.{ℕ, _≤_};
-ghost use lib.ListN.{length};
 ghost use Rattle.lists.specs.Write.{Put};
 ghost use Rattle.spec_answers.specs.Report.{refusal, success};
 ghost use Rattle.endings.specs.Numbers.{numbersOf};

@@ -18,9 +18,10 @@ use Rattle.spec_hasm.specs.Assemble.{Assembled, isTextByte, unlessBadLine, code
 use Rattle.spec_hasm.specs.Assemble.Assembled.{assembled, refusedAt}
 use Rattle.hasm_text.specs.Lines.{notFeed, lineIn}
 use Rattle.hasm_text.proofs.LineLaws.{line-next}
-use Rattle.hasm_body.specs.Going.{Going, LineAt, Turned, BytesPut}
+use Rattle.hasm_body.specs.Going.{Going, LineAt, Turned}
+use Rattle.hasm_body.specs.Bodies.{BytesPut}
 use Rattle.hasm_body.specs.Going.Turned.{onward, halted}
-use Rattle.hasm_body.specs.Going.BytesPut.{whole, refused}
+use Rattle.hasm_body.specs.Bodies.BytesPut.{whole, refused}
 use Rattle.hasm_body.specs.declared.line.Progress.{Progress}
 use Rattle.hasm_body.specs.declared.body.Bytes.the-variants as answer
 use Rattle.hasm_body.proofs.BodyLoop.{body-start, body-end}

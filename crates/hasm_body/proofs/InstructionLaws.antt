@@ -21,7 +21,7 @@ use Rattle.spec_hasm.specs.Text.{isWhite, isSolid}
 use Rattle.spec_hasm.specs.Split.{splitOutside, tokens, nameIn, operandsIn}
 use Rattle.spec_hasm.specs.Line.{opcodeOf}
 use Rattle.spec_hasm.specs.Assemble.{rowOf, foundIn, operandsFrom}
-use Rattle.hasm_labels.proofs.NameLaws.{found-inside, was-found, was-missing}
+use Rattle.hasm_names.proofs.NameLaws.{found-inside, was-found, was-missing}
 use Rattle.hasm_operands.specs.Puts.{OperandsPut}
 use Rattle.hasm_operands.specs.Puts.OperandsPut.{whole as all-put, stopped as one-refused}
 use Rattle.hasm_operands.specs.declared.write.Operands.the-variants as operands

@@ -10,12 +10,10 @@ use Rattle.lists.specs.Write.{Put}
 use Rattle.spec_listing.specs.Edition.{Edition}
 use Rattle.spec_hasm.specs.Text.{linesOf}
 use Rattle.spec_hasm.specs.Assemble.{Assembled, codesFrom, codesOf, behind, bytesFrom}
-use Rattle.spec_hasm.specs.Assemble.Assembled.{assembled, refusedAt}
+use Rattle.spec_hasm.specs.Assemble.Assembled.{refusedAt}
 use Rattle.spec_hasm.specs.Assemble.Label.{none}
 use Rattle.hasm_text.specs.Lines.{notFeed, lineIn}
 use Rattle.hasm_body.specs.declared.line.Progress.{Progress}
-use Rattle.hasm_body.specs.declared.body.Bytes.{Bytes}
-use Rattle.hasm_body.specs.declared.body.Bytes.the-variants as answer
 
 -- what the lines from `at` on come to, the first of which is line n and whose first instruction has offset o
 abbrev pub bytesAt : Edition → (List ℕ → Found) → List ℕ → ℕ → ℕ → ℕ → Assembled
@@ -38,8 +36,3 @@ pub record LineAt (s : List ℕ) (at end o : ℕ) : Type 0 where
 pub data Turned (e : Edition) (labels : List ℕ → Found) (s out₀ out : List ℕ) (next n : ℕ) (p : Progress) : Type 0 where
   onward : p .stopped ≡ false → Going e labels s out₀ out (p .k) next (n + 1) (p .offset) → Turned e labels s out₀ out next n p
   halted : p .stopped ≡ true → bytesFrom e labels 0 (codesOf e s) ≡ refusedAt (p .number) n (p .operand) → Turned e labels s out₀ out next n p
-
--- a text's instructions x were written, or one is refused
-pub data BytesPut (x : Assembled) (out out′ : List ℕ) (r : Bytes) : Type 0 where
-  whole : (bs : List ℕ) (k : ℕ) → x ≡ assembled bs → r ≡ answer.Written k → Put out 0 bs out′ k → BytesPut x out out′ r
-  refused : (number line operand : ℕ) → x ≡ refusedAt number line operand → r ≡ answer.Refused number line operand → length out′ ≡ length out → BytesPut x out out′ r

@@ -5,9 +5,9 @@ ghost use lib.ListN.{length};
 ghost use Rattle.spec_hasm.specs.Text.{linesOf};
 ghost use Rattle.spec_hasm.specs.Assemble.{Assembled, unlessBadLine, codesOf, bytesFrom};
 ghost use Rattle.texts.specs.Keys.{TextsIndexed};
-ghost use Rattle.hasm_operands.specs.Puts.{edition, labelsOf, LabelsKnown};
-ghost use Rattle.hasm_body.specs.Going.{BytesPut};
-use hasm_labels::slot::Slot;
+ghost use Rattle.hasm_operands.specs.Editions.{edition, labelsOf, LabelsKnown};
+ghost use Rattle.hasm_body.specs.Bodies.{BytesPut};
+use label_list::slot::Slot;
 
 // The length of the body; or the number, the line and the operand that refuse it.
 pub enum Bytes {

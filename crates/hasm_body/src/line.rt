@@ -7,12 +7,12 @@ ghost use Rattle.lists.specs.Found as searched;
 ghost use Rattle.slices.specs.Answers.{foundOf};
 ghost use Rattle.spec_hasm.specs.Assemble.{foundIn};
 ghost use Rattle.texts.specs.Keys.{TextsIndexed};
-ghost use Rattle.hasm_operands.specs.Puts.{edition, labelsOf, LabelsKnown};
+ghost use Rattle.hasm_operands.specs.Editions.{edition, labelsOf, LabelsKnown};
 ghost use Rattle.hasm_body.specs.Puts.{InstructionPut};
 ghost use Rattle.hasm_body.specs.Going.{Going, LineAt, Turned};
-use hasm_labels::slot::Slot;
 use hasm_line::statement::Statement;
 use hasm_operands::write::Operands;
+use label_list::slot::Slot;
 use slices::search::Found;
 use slices::write::put_byte;
 
@@ -60,7 +60,7 @@ pub fn put_instruction(
     ensures { λ r. ⌜ InstructionPut (edition (now (source .entry)) (now (types .entry)) (now (ops .entry)) (now (bytes .entry)) (now (ends .entry))) (labelsOf (edition (now (source .entry)) (now (types .entry)) (now (ops .entry)) (now (bytes .entry)) (now (ends .entry))) (now (text .entry))) (now (s .entry)) offset (now (out .entry)) k (now (out .exit)) r ⌝ }
     ensures { λ r. ⌜ r .offset ≤ offset + 65 ⌝ }
 {
-    let n = hasm_text::white::skip(s, 0, false);
+    let n = hasm_space::white::skip(s, 0, false);
     let opcode = opcode_in(names::index::find_indexed(source, ops, heads, nexts, &s[0..n]));
     // An opcode that was found has a row, so this test only shows that it is below 256.
     let rows: &[[usize; 4]] = ops;
@@ -74,7 +74,7 @@ pub fn put_instruction(
         };
     }
     let row = types[opcode];
-    let a = hasm_text::white::skip(s, n, true);
+    let a = hasm_space::white::skip(s, n, true);
     let b = put_byte(out, k, opcode as u8);
     let o = hasm_operands::write::put_operands(
         &s[a..],

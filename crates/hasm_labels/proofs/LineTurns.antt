@@ -17,11 +17,11 @@ use Rattle.spec_hasm.specs.Assemble.Label.{none, called}
 use Rattle.hasm_text.specs.Lines.{notFeed, lineLength, lineIn}
 use Rattle.hasm_text.proofs.LineLaws.{line-short}
 use Rattle.hasm_line.specs.Statements.{StatementIn}
-use Rattle.hasm_line.proofs.PartLaws.{drop-take}
-use Rattle.hasm_labels.specs.Holding.{waiting, Held}
-use Rattle.hasm_labels.specs.NameReads.{RefusedBy, Sized}
+use Rattle.hasm_shape.proofs.PartLaws.{drop-take}
+use Rattle.label_list.specs.Holding.{waiting, Held}
+use Rattle.hasm_names.specs.NameReads.{RefusedBy, Sized}
 use Rattle.hasm_labels.specs.Going.{Passed, CodeTaken, Going, Turned}
-use Rattle.hasm_labels.specs.declared.hold.Progress.{Progress}
+use Rattle.label_list.specs.declared.hold.Progress.{Progress}
 use Rattle.hasm_labels.proofs.CodeSteps.{codeOf, codes-nothing, codes-label, codes-code}
 use Rattle.hasm_line.specs.Statements.StatementIn.{none as read-none, label as read-label, code as read-code}
 use Rattle.hasm_line.specs.declared.statement.Statement.the-variants.{Nothing, Label as LabelRead, Instruction}

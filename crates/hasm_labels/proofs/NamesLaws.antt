@@ -9,14 +9,14 @@ use Rattle.lists.specs.Scan.{run}
 use Rattle.spec_listing.specs.Edition.{Edition}
 use Rattle.spec_hasm.specs.Assemble.{Assembled, Code, LabelAt, codesOf, unlessBadName, labelsFrom, labelOffset}
 use Rattle.hasm_text.specs.Lines.{notFeed}
-use Rattle.hasm_labels.specs.Holding.{waiting}
+use Rattle.label_list.specs.Holding.{waiting}
 use Rattle.hasm_labels.specs.Going.{LineAt, Going}
 use Rattle.hasm_labels.specs.NamesRead.{NamesRead}
 use Rattle.hasm_labels.specs.NamesRead.NamesRead.{good}
 use Rattle.hasm_labels.specs.declared.pass.Names.the-variants.{Good}
-use Rattle.hasm_labels.specs.declared.hold.Progress.{Progress}
+use Rattle.label_list.specs.declared.hold.Progress.{Progress}
 use Rattle.hasm_labels.proofs.CodeSteps.{codes-none}
-use Rattle.hasm_labels.proofs.LabelLaws.{offset-none, labels-none}
+use Rattle.label_list.proofs.LabelLaws.{offset-none, labels-none}
 
 abbrev atStart : Progress
 atStart = record { waits = false; start = 0; size = 0; count = 0; offset = 0; has = false; place = 0; refusal = 0 }

@@ -10,9 +10,9 @@ use Rattle.spec_hasm.specs.Text.{linesOf}
 use Rattle.spec_hasm.specs.Assemble.{Assembled, LabelAt, codesFrom, codesOf, unlessBadName, holding, labelsFrom}
 use Rattle.spec_hasm.specs.Assemble.Assembled.{refusedAt}
 use Rattle.hasm_text.specs.Lines.{notFeed}
-use Rattle.hasm_labels.specs.Holding.{waiting, Small, Noted}
-use Rattle.hasm_labels.specs.NameReads.{RefusedBy, Sized}
-use Rattle.hasm_labels.specs.declared.hold.Progress.{Progress}
+use Rattle.label_list.specs.Holding.{waiting, Small, Noted}
+use Rattle.hasm_names.specs.NameReads.{RefusedBy, Sized}
+use Rattle.label_list.specs.declared.hold.Progress.{Progress}
 
 -- the instruction s of k bytes took the label that waited
 pub record Passed (e : Edition) (s text t : List ℕ) (slots : List (List ℕ)) (p : Progress) (slots′ : List (List ℕ)) (p′ : Progress) : Type 0 where

@@ -5,7 +5,7 @@ use mathlib.Core.Bool.{Bool, true}
 use mathlib.Core.List.{List}
 use Rattle.spec_listing.specs.Edition.{Edition}
 use Rattle.spec_hasm.specs.Assemble.{Assembled, codesOf, unlessBadName, labelsFrom}
-use Rattle.hasm_labels.specs.Slots.{labelsIn}
+use Rattle.label_list.specs.Slots.{labelsIn}
 
 -- neither 4 nor 5 refuses a line; and the slots hold all labels, where they fit
 pub record Labelled (e : Edition) (text : List ℕ) (slots : List (List ℕ)) (fits : Bool) : Type 0 where

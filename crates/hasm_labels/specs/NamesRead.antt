@@ -9,7 +9,7 @@ use Rattle.lists.specs.Found.Found.{found, missing}
 use Rattle.spec_listing.specs.Edition.{Edition}
 use Rattle.spec_hasm.specs.Assemble.{Assembled, codesOf, unlessBadName, labelsFrom, labelOffset}
 use Rattle.spec_hasm.specs.Assemble.Assembled.{refusedAt}
-use Rattle.hasm_labels.specs.Slots.{labelsIn}
+use Rattle.label_list.specs.Slots.{labelsIn}
 use Rattle.hasm_labels.specs.declared.pass.Names.{Names}
 use Rattle.hasm_labels.specs.declared.pass.Names.the-variants.{Good, Unknown, Count}
 

@@ -3,12 +3,12 @@ ghost use mathlib.Core.Path.{_≡_};
 ghost use mathlib.Core.List.{List};
 ghost use Prim.Native.Nat.{ℕ, _+_};
 ghost use Rattle.names.specs.Keys.{NamesIndexed};
-ghost use Rattle.hasm_labels.specs.Holding.{Small};
+ghost use Rattle.label_list.specs.Holding.{Small};
 ghost use Rattle.hasm_labels.specs.Going.{CodeTaken, LineAt, Going, Turned};
-use crate::hold::Progress;
-use crate::name::Named;
-use crate::slot::Slot;
 use hasm_line::statement::Statement;
+use hasm_names::Named;
+use label_list::hold::Progress;
+use label_list::slot::Slot;
 
 // The line is refused by a number.
 fn refuse(p: Progress, number: u8) -> Progress
@@ -43,10 +43,10 @@ fn take_code(
     requires { ⌜ Small p ⌝ }
     ensures { λ r. ⌜ ((bytes ends : List ℕ) → CodeTaken (record { sheet = now (source .entry); types = now (types .entry); infos = now (ops .entry); bytes = bytes; ends = ends }) (now (s .entry)) (now (text .entry)) (now (t .entry)) (now (labels .entry)) p (now (labels .exit)) r) ⌝ }
 {
-    let named = crate::name::read_name(s, source, types, ops, heads, nexts);
+    let named = hasm_names::read_name(s, source, types, ops, heads, nexts);
     match named {
         Named::Size(size) => {
-            let q = crate::hold::hold_label(text, labels, t, p);
+            let q = label_list::hold::hold_label(text, labels, t, p);
             Progress {
                 waits: false,
                 start: 0,

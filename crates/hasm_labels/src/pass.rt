@@ -4,8 +4,8 @@ ghost use Prim.Native.Nat.{ℕ, _≤_};
 ghost use lib.ListN.{length};
 ghost use Rattle.names.specs.Keys.{NamesIndexed};
 ghost use Rattle.hasm_labels.specs.NamesRead.{NamesRead};
-use crate::hold::Progress;
-use crate::slot::Slot;
+use label_list::hold::Progress;
+use label_list::slot::Slot;
 
 // How many labels are taken, whether one has the text that was asked for, and the offset of the last one; or the line of a
 // name that the sheet does not have (4), or of one that has too few or too many operands (5).

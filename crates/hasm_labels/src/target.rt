@@ -8,7 +8,7 @@ ghost use Rattle.names.specs.Keys.{NamesIndexed};
 ghost use Rattle.spec_hasm.specs.Assemble.{codesOf, labelsFrom, labelOffset};
 ghost use Rattle.hasm_labels.specs.Labelled.{Labelled};
 use crate::pass::Names;
-use crate::slot::Slot;
+use label_list::slot::Slot;
 use slices::search::Found;
 
 // The label list is searched where it holds all labels. Where it does not, all lines are read again.
@@ -29,7 +29,7 @@ pub fn label_offset(
     ensures { λ r. ⌜ ((bytes ends : List ℕ) → r ≡ foundOf (labelOffset (labelsFrom (record { sheet = now (source .entry); types = now (types .entry); infos = now (ops .entry); bytes = bytes; ends = ends }) 0 (codesOf (record { sheet = now (source .entry); types = now (types .entry); infos = now (ops .entry); bytes = bytes; ends = ends }) (now (text .entry)))) (now (t .entry)))) ⌝ }
 {
     if fits {
-        return crate::find::find_label(text, labels, t);
+        return label_list::find::find_label(text, labels, t);
     }
     let mut none: [Slot; 0] = [];
     let read = crate::pass::read_names(text, source, types, ops, heads, nexts, &mut none, t);

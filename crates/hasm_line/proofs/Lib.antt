@@ -1,4 +1,1 @@
-pub mod PartLaws
-pub mod OffsetLaws
-pub mod ShapeLaws
 pub mod StatementLaws

@@ -16,8 +16,8 @@ use Rattle.spec_hasm.specs.Line.Statement.{nothing}
 use Rattle.hasm_line.specs.Statements.{StatementIn}
 use Rattle.hasm_line.specs.Statements.StatementIn.{none, label, code}
 use Rattle.hasm_line.specs.declared.statement.Statement.the-variants.{Nothing, Label, Instruction}
-use Rattle.hasm_line.proofs.PartLaws.{drop-take}
-use Rattle.hasm_line.proofs.ShapeLaws.{kept-not-empty}
+use Rattle.hasm_shape.proofs.PartLaws.{drop-take}
+use Rattle.hasm_shape.proofs.ShapeLaws.{kept-not-empty}
 
 -- what stands of a line: the n bytes at a, s
 pub record Cut (line : List ℕ) (a n : ℕ) (s : List ℕ) : Type 0 where

@@ -1,4 +1,2 @@
 // What a line of an assembler's text is: nothing, a label or an instruction.
-pub mod offset;
-pub mod shape;
 pub mod statement;

@@ -24,17 +24,17 @@ pub fn read_statement(
     requires { ⌜ NamesIndexed (now source) (now ops) (now heads) (now nexts) ⌝ }
     ensures { λ r. ⌜ ((types : List (List ℕ)) (bytes ends : List ℕ) → StatementIn (statementOf (record { sheet = now (source .entry); types = types; infos = now (ops .entry); bytes = bytes; ends = ends }) (now (line .entry))) (now (line .entry)) r) ⌝ }
 {
-    let c = hasm_text::comment::comment_start(line);
-    let a = hasm_text::white::skip(&line[0..c], 0, true);
-    let n = hasm_text::white::solid_length(&line[a..c]);
+    let c = hasm_comment::comment::comment_start(line);
+    let a = hasm_space::white::skip(&line[0..c], 0, true);
+    let n = hasm_space::white::solid_length(&line[a..c]);
     let s = &line[a..a + n];
-    if crate::shape::is_skipped(s) {
+    if hasm_shape::is_skipped(s) {
         return Statement::Nothing;
     }
-    if crate::shape::is_label(s) {
+    if hasm_shape::is_label(s) {
         let size = n - 1;
         return Statement::Label(a, size);
     }
-    let k = crate::offset::behind_offset(s, source, ops, heads, nexts);
+    let k = hasm_offset::behind_offset(s, source, ops, heads, nexts);
     Statement::Instruction(a + k, a + n)
 }

@@ -21,10 +21,10 @@ use Rattle.spec_hasm.specs.Token.Value.{value, refused}
 use Rattle.spec_hasm.specs.Assemble as definition
 use Rattle.spec_hasm.specs.Assemble.{prepend, onValue, operandsFrom}
 use Rattle.spec_hasm.specs.Assemble.Operands.{written, refusedOperand}
-use Rattle.hasm_text.specs.Commas.{commaAt}
-use Rattle.tokens.specs.Values.{valueOf}
-use Rattle.tokens.specs.declared.number.Value.{Value}
-use Rattle.tokens.specs.declared.number.Value.the-variants.{Bits, Refused}
+use Rattle.hasm_commas.specs.Commas.{commaAt}
+use Rattle.token_number.specs.Values.{valueOf}
+use Rattle.token_number.specs.declared.Value.{Value}
+use Rattle.token_number.specs.declared.Value.the-variants.{Bits, Refused}
 use Rattle.hasm_operands.specs.declared.write.Operands.the-variants as answer
 use Rattle.hasm_operands.specs.Puts.{OperandsPut}
 use Rattle.hasm_operands.specs.Puts.OperandsPut.{whole, stopped}

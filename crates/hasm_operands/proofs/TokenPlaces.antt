@@ -9,8 +9,8 @@ use Rattle.lists.proofs.Parts.{part-rest}
 use Rattle.lists.proofs.Tests.{by-eqb, by-leb}
 use Rattle.spec_hasm.specs.Text.{isWhite, solidLength, trimStart, trim}
 use Rattle.spec_hasm.specs.Split.{splitOutside, tokens}
-use Rattle.hasm_text.specs.Commas.{commaAt, commaOutside}
-use Rattle.hasm_text.proofs.OperandLaws.{tokens-blank, operand-comma, operand-blank, operand-last}
+use Rattle.hasm_commas.specs.Commas.{commaAt, commaOutside}
+use Rattle.hasm_commas.proofs.OperandLaws.{tokens-blank, operand-comma, operand-blank, operand-last}
 
 -- nothing is left
 none-left : tokens (splitOutside []) ≡ []

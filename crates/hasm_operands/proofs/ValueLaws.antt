@@ -16,11 +16,12 @@ use Rattle.spec_hasm.specs.Token.Value.{value, refused}
 use Rattle.slices.specs.Answers.{foundOf}
 use Rattle.slices.specs.declared.search.Found.{Found}
 use Rattle.slices.specs.declared.search.Found.the-variants.{At, Missing}
-use Rattle.tokens.specs.Values.{valueOf, targetOr}
-use Rattle.tokens.specs.declared.address.Target.{Target}
-use Rattle.tokens.specs.declared.address.Target.the-variants as target
-use Rattle.tokens.specs.declared.number.Value.{Value}
-use Rattle.tokens.specs.declared.number.Value.the-variants.{Bits, Refused}
+use Rattle.token_number.specs.Values.{valueOf}
+use Rattle.token_address.specs.Targets.{targetOr}
+use Rattle.token_address.specs.declared.Target.{Target}
+use Rattle.token_address.specs.declared.Target.the-variants as target
+use Rattle.token_number.specs.declared.Value.{Value}
+use Rattle.token_number.specs.declared.Value.the-variants.{Bits, Refused}
 
 -- a token for an operand of each family
 module _ (bytes ends : List ℕ) (labels : List ℕ → search.Found) (offset code : ℕ) (t : List ℕ) {v : Value} where

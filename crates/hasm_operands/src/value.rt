@@ -8,20 +8,20 @@ ghost use Rattle.spec_sheet.specs.Types.{familyOf};
 ghost use Rattle.spec_hasm.specs.Token.{foundOr, targetIn, distanceTo, tokenValue};
 ghost use Rattle.slices.specs.Answers.{foundOf};
 ghost use Rattle.texts.specs.Keys.{TextsIndexed};
-ghost use Rattle.hasm_operands.specs.Puts.{edition, labelsOf, LabelsKnown};
-ghost use Rattle.tokens.specs.Values.{valueOf};
-use hasm_labels::slot::Slot;
+ghost use Rattle.hasm_operands.specs.Editions.{edition, labelsOf, LabelsKnown};
+ghost use Rattle.token_number.specs.Values.{valueOf};
 use hasm_labels::target::label_offset;
+use label_list::slot::Slot;
 use slices::search::Found;
-use tokens::address::Target;
-use tokens::address::distance_to;
-use tokens::address::target_in;
-use tokens::number::Value;
-use tokens::number::double_value;
-use tokens::number::register_value;
-use tokens::number::signed_value;
-use tokens::number::unsigned_value;
-use tokens::text::string_value;
+use token_address::Target;
+use token_address::distance_to;
+use token_address::target_in;
+use token_number::Value;
+use token_number::double_value;
+use token_number::register_value;
+use token_number::signed_value;
+use token_number::unsigned_value;
+use token_text::string_value;
 
 // The value of a token that is no jump's target.
 fn plain_value(
@@ -107,9 +107,9 @@ pub fn operand_value(
     requires { ⌜ (offset < 2 ^ 32) × LabelsKnown (now text) (now source) (now types) (now ops) (now heads) (now nexts) (now labels) fits ⌝ }
     ensures { λ r. ⌜ r ≡ valueOf (tokenValue (now (bytes .entry)) (now (ends .entry)) (labelsOf (edition (now (source .entry)) (now (types .entry)) (now (ops .entry)) (now (bytes .entry)) (now (ends .entry))) (now (text .entry))) offset code (now (t .entry))) ⌝ }
 {
-    let family = sheet_line::types::family(code);
+    let family = operand_types::family(code);
     if family == 4 {
-        let width = sheet_line::types::width(code);
+        let width = operand_types::width(code);
         return target_distance(
             t,
             width,

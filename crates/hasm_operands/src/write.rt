@@ -5,10 +5,11 @@ ghost use lib.ListN.{length};
 ghost use Rattle.spec_hasm.specs.Split.{splitOutside, tokens};
 ghost use Rattle.spec_hasm.specs.Assemble.{operandsFrom};
 ghost use Rattle.texts.specs.Keys.{TextsIndexed};
-ghost use Rattle.hasm_operands.specs.Puts.{edition, labelsOf, LabelsKnown, OperandsPut};
+ghost use Rattle.hasm_operands.specs.Puts.{OperandsPut};
+ghost use Rattle.hasm_operands.specs.Editions.{edition, labelsOf, LabelsKnown};
 use crate::value::operand_value;
-use hasm_labels::slot::Slot;
-use tokens::number::Value;
+use label_list::slot::Slot;
+use token_number::Value;
 
 // The next place in the output, or the number that refuses an operand, and which one, counted from 1.
 pub enum Operands {
@@ -57,8 +58,8 @@ pub fn put_operands(
         if code == 0 {
             return Operands::Written(n);
         }
-        let end = hasm_text::commas::comma_from(s, p);
-        let t = hasm_text::white::trim(&s[p..end]);
+        let end = hasm_commas::comma_from(s, p);
+        let t = hasm_space::white::trim(&s[p..end]);
         let v = operand_value(
             t,
             code,
@@ -79,7 +80,7 @@ pub fn put_operands(
         );
         match v {
             Value::Bits(bits) => {
-                n = numbers::io::put_le(out, n, sheet_line::types::width(code), bits);
+                n = numbers::io::put_le(out, n, operand_types::width(code), bits);
             }
             Value::Refused(number) => {
                 return Operands::Refused(number, i + 1);

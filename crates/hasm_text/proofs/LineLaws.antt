@@ -14,8 +14,8 @@ use Rattle.lists.proofs.Scans.{run-cons-go, run-cons-stop}
 use Rattle.lists.proofs.Tests.{by-eqb, by-leb, both-no-left, both-no-right}
 use Rattle.lists.proofs.Parts.{part-rest}
 use Rattle.spec_hasm.specs.Text.{onto, linesOf}
-use Rattle.hasm_text.specs.Quotes.{byteBefore}
-use Rattle.hasm_text.proofs.QuoteLaws.{before-last}
+use Rattle.hasm_comment.specs.Quotes.{byteBefore}
+use Rattle.hasm_comment.proofs.QuoteLaws.{before-last}
 use Rattle.hasm_text.specs.Lines.{notFeed, lineLength, lineIn}
 
 -- the clauses of the lines and of their end, each by the bytes that pick it

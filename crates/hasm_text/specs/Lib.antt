@@ -1,5 +1,2 @@
-pub mod Spaces
-pub mod Quotes
-pub mod Commas
 pub mod Lines
 pub mod Refusals

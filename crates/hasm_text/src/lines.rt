@@ -1,6 +1,6 @@
 // The lines of a text, and the refusals of lines that are too long or no text.
 ghost use mathlib.Core.Path.{_≡_};
-ghost use Prim.Native.Nat.{_+_, _-_, _≤_};
+ghost use Prim.Native.Nat.{_+_, _≤_};
 ghost use lib.ListN.{length, drop};
 ghost use Rattle.lists.specs.Scan.{run, all};
 ghost use Rattle.spec_hasm.specs.Text.{linesOf};

@@ -28,10 +28,10 @@ fn read_tables(text: &[u8], types: &mut [[u8; 8]; 256], ops: &mut [[usize; 4]; 2
 pub fn table_inputs(last: usize, bytes: &[u8], ends: &[u32]) -> Inputs
     ensures { λ r. ⌜ r ≡ tableInputs last (now (bytes .entry)) (now (ends .entry)) ⌝ }
 {
-    if strings::table::too_large(bytes, ends) {
+    if string_table::too_large(bytes, ends) {
         return Inputs::TooLarge;
     }
-    let f = strings::table::find_fault(bytes, ends);
+    let f = string_table::find_fault(bytes, ends);
     match f {
         Found::At(id) => Inputs::Fault(id),
         Found::Missing => Inputs::Ready(last),

@@ -21,9 +21,10 @@ use Rattle.spec_job.specs.Printed.{jobLimit, refusedText, printedJob, printed}
 use Rattle.job_reader.specs.ReaderAnswers.{asked}
 use Rattle.job_reader.specs.declared.reader.Asked.{Asked}
 use Rattle.job_reader.proofs.AskedLaws.{readAs, read-as}
-use Rattle.job.specs.Run.{Prints, printedMost, runText}
-use Rattle.job.proofs.PrintLaws.{refusal-prints}
-use Rattle.job.proofs.ReadLaws.{EditionWas, edition-held}
+use Rattle.job.specs.Run.{runText}
+use Rattle.printed.specs.Prints.{Prints, printedMost}
+use Rattle.printed.proofs.PrintLaws.{refusal-prints}
+use Rattle.job_reader.proofs.ReadLaws.{EditionWas, edition-held}
 
 -- an edition that was read, and what is read behind it
 module _ (job : List ℕ) (start : ℕ) {types ops : List (List ℕ)} {bytes ends : List ℕ} {b line m count size : ℕ} (w : EditionWas (editionAt job start 2) types ops bytes ends b line m count size) (h : length job ≤ 65536) where

@@ -6,10 +6,11 @@ ghost use Rattle.lists.specs.Choice.{pick};
 ghost use Rattle.spec_answers.specs.Report.{written, zeros};
 ghost use Rattle.spec_job.specs.Job.{readList, readAssemble};
 ghost use Rattle.spec_job.specs.Printed.{printedJob};
-ghost use Rattle.job.specs.Run.{Prints, runText};
-use crate::print::refused;
+ghost use Rattle.job.specs.Run.{runText};
+ghost use Rattle.printed.specs.Prints.{Prints};
 use job_reader::reader::Asked;
 use job_reader::reader::EditionAnswer;
+use printed::refused;
 use slices::write::clear;
 
 // Space for a job's strings: two digits make a byte, so that half of the job's limit is enough. No contract, since the
@@ -45,18 +46,9 @@ fn print_job(lists: bool, job: &[u8], start: usize, text: &mut [u8]) -> usize
             let texts = &bytes[0..size];
             let marks = &ends[0..count];
             if lists {
-                crate::list_job::print_list(job, at, line, &types, &ops, above, texts, marks, text)
+                list_job::print_list(job, at, line, &types, &ops, above, texts, marks, text)
             } else {
-                crate::assemble_job::print_assembled(
-                    job,
-                    at,
-                    line,
-                    &types,
-                    &ops,
-                    texts,
-                    marks,
-                    text,
-                )
+                assemble_job::print_assembled(job, at, line, &types, &ops, texts, marks, text)
             }
         }
         EditionAnswer::BadLine(bad) => refused(text, 1, bad),

@@ -10,13 +10,13 @@ use Rattle.spec_job.specs.Table.{keyedHexAt}
 use Rattle.spec_job.specs.Job.{withBody}
 use Rattle.spec_job.proofs.TableLaws.{keyed-spread}
 use Rattle.spec_job.proofs.JobLaws.{body-off, body-whole, body-more}
-use Rattle.job_reader.specs.HexAnswers.{Lined}
+use Rattle.job_hex.specs.HexAnswers.{Lined}
 use Rattle.job_reader.specs.ReaderAnswers.{BodyIn}
 use Rattle.job_reader.specs.ReaderAnswers.BodyIn.{whole, faulty}
-use Rattle.job_reader.specs.declared.hex.HexLine.{HexLine}
-use Rattle.job_reader.specs.declared.hex.HexLine.the-variants.{To, Malformed}
+use Rattle.job_hex.specs.declared.HexLine.{HexLine}
+use Rattle.job_hex.specs.declared.HexLine.the-variants.{To, Malformed}
 use Rattle.job_reader.specs.declared.reader.BodyAnswer.the-variants.{Read, BadLine}
-use Rattle.job_reader.proofs.HexAnswerLaws.{Wrote, was-line, was-malformed, written-opens}
+use Rattle.job_table.proofs.HexAnswerLaws.{Wrote, was-line, was-malformed, written-opens}
 
 module _ (s : List ℕ) (at line : ℕ) (out out′ : List ℕ) (r : HexLine) (t : Lined (keyedHexAt (text "body=") s at) out 0 out′ r) where
   pub off-line : r ≡ Malformed → BodyIn (withBody s at line) out′ (BadLine line)

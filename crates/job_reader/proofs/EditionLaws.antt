@@ -13,13 +13,13 @@ use Rattle.spec_job.proofs.JobLaws.{sheet-fault, edition-whole, edition-strings
 use Rattle.sheet.specs.Sheets.{sheetAnswer, typesIn, infosIn}
 use Rattle.sheet.specs.declared.opcode.Sheet.the-variants as sheets
 use Rattle.sheet.proofs.SheetAnswers.{was-read, was-malformed}
-use Rattle.job_reader.specs.TableAnswers.{Tabled}
+use Rattle.job_table.specs.TableAnswers.{Tabled}
 use Rattle.job_reader.specs.ReaderAnswers.{EditionIn}
 use Rattle.job_reader.specs.ReaderAnswers.EditionIn.{whole, faulty}
-use Rattle.job_reader.specs.declared.table.TableAnswer.{TableAnswer}
-use Rattle.job_reader.specs.declared.table.TableAnswer.the-variants as tables
+use Rattle.job_table.specs.declared.TableAnswer.{TableAnswer}
+use Rattle.job_table.specs.declared.TableAnswer.the-variants as tables
 use Rattle.job_reader.specs.declared.reader.EditionAnswer.the-variants.{Read, BadLine}
-use Rattle.job_reader.proofs.TableAnswerLaws.{was-table, was-fault}
+use Rattle.job_table.proofs.TableAnswerLaws.{was-table, was-fault}
 
 types-of : (x : SheetRead) (sh : spec.Sheet) (b : ℕ) → x ≡ sheet sh b → typesIn x ≡ typeRows (sh .opcodes)
 unfolding typesIn

@@ -1,3 +1,1 @@
-pub mod HexAnswers
-pub mod TableAnswers
 pub mod ReaderAnswers

@@ -12,7 +12,7 @@ use Rattle.spec_sheet.specs.Sheet.{typeRows, infoRows, above}
 use Rattle.spec_job.specs.Job.{Edition, EditionRead, JobRead}
 use Rattle.spec_job.specs.Job.EditionRead.{edition, badEdition}
 use Rattle.spec_job.specs.Job.JobRead.{badLine}
-use Rattle.job_reader.specs.TableAnswers.{Opens}
+use Rattle.job_table.specs.TableAnswers.{Opens}
 use Rattle.job_reader.specs.declared.reader.Asked.{Asked}
 use Rattle.job_reader.specs.declared.reader.Asked.the-variants as jobs
 use Rattle.job_reader.specs.declared.reader.EditionAnswer.{EditionAnswer}

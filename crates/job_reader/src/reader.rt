@@ -6,8 +6,8 @@ ghost use Rattle.lists.specs.Text.{text};
 ghost use Rattle.spec_sheet.specs.Scan.{literalAt};
 ghost use Rattle.spec_job.specs.Job.{editionAt, withBody};
 ghost use Rattle.job_reader.specs.ReaderAnswers.{asked, EditionIn, BodyIn, textAnswer};
-use crate::hex::HexLine;
-use crate::table::TableAnswer;
+use job_hex::HexLine;
+use job_table::TableAnswer;
 use sheet::opcode::Sheet;
 use sheet_line::scan::Step;
 
@@ -54,7 +54,7 @@ pub fn edition_at(
     match r {
         Sheet::Read(_, lines, above, b) => {
             let strings_line = line + 2 + lines;
-            let t = crate::table::table_at(s, b, bytes, ends);
+            let t = job_table::table_at(s, b, bytes, ends);
             match t {
                 TableAnswer::Read(place, count, size) => EditionAnswer::Read(
                     place,
@@ -81,7 +81,7 @@ pub fn body_at(s: &[u8], at: usize, line: usize, out: &mut [u8]) -> BodyAnswer
     requires { ⌜ line ≤ 65536 ⌝ }
     ensures { λ r. ⌜ BodyIn (withBody (now (s .entry)) at line) (now (out .exit)) r ⌝ }
 {
-    let l = crate::hex::keyed_hex_at(s, at, b"body=", out, 0);
+    let l = job_hex::keyed_hex_at(s, at, b"body=", out, 0);
     let HexLine::To(b, n) = l else {
         return BodyAnswer::BadLine(line);
     };

@@ -1,5 +1,3 @@
-pub mod FlowLaws
-pub mod NoteLaws
 pub mod TargetLaws
 pub mod TargetsLoop
 pub mod InstructionLaws

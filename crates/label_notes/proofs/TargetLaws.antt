@@ -17,8 +17,9 @@ use Rattle.spec_sheet.specs.Types.{widthOf, familyOf}
 use Rattle.spec_sheet.proofs.TypeLaws.{width-some, family-address}
 use Rattle.spec_listing.specs.Operand.{targetOf}
 use Rattle.spec_listing.specs.Labels.{targets}
-use Rattle.label_notes.specs.Notes.{Notes, note, noteAll, targetIn}
-use Rattle.label_notes.proofs.NoteLaws.{all-one, all-none}
+use Rattle.label_marks.specs.Notes.{Notes, note, noteAll}
+use Rattle.label_notes.specs.InstructionNotes.{targetIn}
+use Rattle.label_marks.proofs.NoteLaws.{all-one, all-none}
 
 -- an operand's bits are of its width
 pub bits-below : (s : List ℕ) (p w bits : ℕ) → Bytes s → bits ≡ le (part s p w) → bits < 256 ^ w

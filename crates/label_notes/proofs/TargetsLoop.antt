@@ -12,8 +12,9 @@ use Rattle.spec_sheet.specs.Types.{widthOf, kindOf}
 use Rattle.spec_body.specs.Record.{sumBy, widths, lengthOf, pairs}
 use Rattle.records.proofs.RowLaws.{sum-more, sum-all, sum-front}
 use Rattle.spec_listing.specs.Labels.{targets}
-use Rattle.label_notes.specs.Notes.{Notes, noteAll, targetIn}
-use Rattle.label_notes.proofs.NoteLaws.{all-append, all-none, all-most}
+use Rattle.label_marks.specs.Notes.{Notes, noteAll}
+use Rattle.label_notes.specs.InstructionNotes.{targetIn}
+use Rattle.label_marks.proofs.NoteLaws.{all-append, all-none, all-most}
 use Rattle.label_notes.proofs.TargetLaws.{target-most, targets-first}
 
 -- the targets of the operands from the i-th on, which stands at p, are left to note

@@ -1,3 +1,2 @@
 // The label offsets of one instruction, noted in marks and counted.
-pub mod flow;
 pub mod offsets;

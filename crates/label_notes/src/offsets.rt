@@ -1,53 +1,19 @@
 // Offsets noted as they are met: near ones in marks, one for each offset, and far ones, those past the marks, in a list.
 ghost use mathlib.Core.Path.{_≡_};
-ghost use mathlib.Core.List.{List, [], _∷_};
+ghost use mathlib.Core.List.{[], _∷_};
 ghost use Prim.Native.Nat.{_+_, _≤_, _<_};
-ghost use lib.ListN.{length, set};
+ghost use lib.ListN.{length};
 ghost use Rattle.lists.specs.Choice.{pick};
 ghost use Rattle.lists.specs.Scan.{part};
 ghost use Rattle.spec_numbers.specs.LittleEndian.{le};
 ghost use Rattle.spec_sheet.specs.Types.{widthOf};
 ghost use Rattle.spec_body.specs.Record.{lengthOf, pairs};
 ghost use Rattle.spec_listing.specs.Labels.{endsFlow, targets};
-ghost use Rattle.label_notes.specs.Notes as notes;
-ghost use Rattle.label_notes.specs.Notes.{notesOf, noteAll, targetIn, nameIn, labelsIn};
-
-// How many near offsets are marked, and how many far ones were met.
-pub struct Counts {
-    pub near: usize,
-    pub far: usize,
-}
-
-// Stores a far offset as the n-th, where there is room.
-fn store_far(stored: &mut [u32], n: usize, x: u32)
-    ensures { λ _. ⌜ now (stored .exit) ≡ set (now (stored .entry)) n x ⌝ }
-{
-    if n < stored.len() {
-        stored[n] = x;
-    }
-}
-
-// Notes one offset.
-pub fn note(marks: &mut [u8], stored: &mut [u32], counts: Counts, x: u32) -> Counts
-    requires { ⌜ counts .near + counts .far < 18446744073709551615 ⌝ }
-    ensures { λ r. ⌜ notesOf (now (marks .exit)) (now (stored .exit)) r ≡ notes.note (notesOf (now (marks .entry)) (now (stored .entry)) counts) x ⌝ }
-{
-    let near = counts.near;
-    let far = counts.far;
-    let at = x as usize;
-    if at < marks.len() {
-        if marks[at] == 0 {
-            marks[at] = 1;
-            return Counts {
-                near: near + 1,
-                far,
-            };
-        }
-        return counts;
-    }
-    store_far(stored, far, x);
-    Counts { near, far: far + 1 }
-}
+ghost use Rattle.label_marks.specs.Notes.{notesOf, noteAll};
+ghost use Rattle.flow_end.specs.FlowNames.{nameIn};
+ghost use Rattle.label_notes.specs.InstructionNotes.{targetIn, labelsIn};
+use label_marks::Counts;
+use label_marks::note;
 
 // Notes the target of an operand at p of the jump at `at`, where it is an Addr's and not negative.
 fn note_target(
@@ -62,9 +28,9 @@ fn note_target(
     requires { ⌜ (at ≤ 65536) × (p + widthOf code ≤ length (now s)) × (counts .near + counts .far < 18446744073709551615) ⌝ }
     ensures { λ r. ⌜ notesOf (now (marks .exit)) (now (stored .exit)) r ≡ noteAll (notesOf (now (marks .entry)) (now (stored .entry)) counts) (targetIn at code (le (part (now (s .entry)) p (widthOf code)))) ⌝ }
 {
-    if sheet_line::types::family(code) == 4 {
-        let bits = numbers::io::read_le(s, p, sheet_line::types::width(code));
-        let target = lines::operand::target_of(at, code, bits);
+    if operand_types::family(code) == 4 {
+        let bits = numbers::io::read_le(s, p, operand_types::width(code));
+        let target = operand_text::target_of(at, code, bits);
         if target < 0x8000_0000 {
             return note(marks, stored, counts, target);
         }
@@ -92,7 +58,7 @@ fn note_targets(
     while i < 8 {
         let code = row[i];
         c = note_target(marks, stored, c, s, at, code, p);
-        p += sheet_line::types::width(code);
+        p += operand_types::width(code);
         i += 1;
     }
     c
@@ -111,7 +77,7 @@ fn note_behind(
     requires { ⌜ counts .near + counts .far < 18446744073709551615 ⌝ }
     ensures { λ r. ⌜ notesOf (now (marks .exit)) (now (stored .exit)) r ≡ noteAll (notesOf (now (marks .entry)) (now (stored .entry)) counts) (pick (endsFlow (nameIn (now (text .entry)) start size)) (next ∷ []) []) ⌝ }
 {
-    if crate::flow::ends_flow(text, start, size) {
+    if flow_end::ends_flow(text, start, size) {
         return note(marks, stored, counts, next);
     }
     counts

@@ -12,7 +12,7 @@ use Rattle.spec_listing.specs.Labels.{labelOffsets, labelsOf, different}
 use Rattle.distinct.specs.Parts.{below, above}
 use Rattle.distinct.proofs.DifferentLaws.{different-most}
 use Rattle.distinct.proofs.PartLaws.{different-parts}
-use Rattle.label_notes.specs.Notes.{Notes}
+use Rattle.label_marks.specs.Notes.{Notes}
 use Rattle.labels.specs.Collecting.{tables, unnoted, notesAfter, walkOf, countOf, collectedOf, Noted, FarCounted, AllMarked}
 use Rattle.labels.specs.declared.collect.Walked.{Walked}
 use Rattle.labels.specs.declared.collect.Walked.the-variants as walked

@@ -14,9 +14,9 @@ use Rattle.spec_listing.specs.Labels.{among, different}
 use Rattle.distinct.specs.Parts.{below, above}
 use Rattle.distinct.proofs.DifferentLaws.{among-append, among-one, different-more}
 use Rattle.distinct.proofs.PartLaws.{below-append, above-append, below-low, below-high, above-low, above-high, among-below}
-use Rattle.label_notes.specs.Notes.{Notes, withMark, withFar, note, noteAll}
+use Rattle.label_marks.specs.Notes.{Notes, withMark, withFar, note, noteAll}
 use Rattle.labels.specs.Collecting.{Marked, unnoted}
-use Rattle.label_notes.proofs.NoteLaws.{by-way}
+use Rattle.label_marks.proofs.NoteLaws.{by-way}
 
 -- what each offset keeps holds of all
 pub all-steps : (P : List ℕ → Notes → Type 0) → ((k : List ℕ) (n : Notes) (x : ℕ) → P k n → P (k ++ (x ∷ [])) (note n x))

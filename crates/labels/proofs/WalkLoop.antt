@@ -11,11 +11,12 @@ use Rattle.spec_body.specs.Decode.Decoded.{decoded, beyond, cut}
 use Rattle.spec_body.proofs.DecodeLaws.{at-end, at-beyond, at-cut, at-more}
 use Rattle.spec_listing.specs.Edition.{Edition}
 use Rattle.spec_listing.specs.Labels.{labelsOf, labelOffsets}
-use Rattle.label_notes.specs.Notes.{Notes, noteAll, labelsIn}
+use Rattle.label_marks.specs.Notes.{Notes, noteAll}
+use Rattle.label_notes.specs.InstructionNotes.{labelsIn}
 use Rattle.labels.specs.Collecting.{unnoted, walkOf, countOf, Noted}
 use Rattle.labels.specs.declared.collect.Walked.{Walked}
 use Rattle.labels.specs.declared.collect.Walked.the-variants.{Met, Beyond, Cut}
-use Rattle.label_notes.proofs.NoteLaws.{all-append, all-none}
+use Rattle.label_marks.proofs.NoteLaws.{all-append, all-none}
 use Rattle.label_notes.proofs.InstructionLaws.{labels-record}
 
 -- what a walk comes to: its notes, or where decoding refuses

@@ -9,7 +9,7 @@ use Rattle.spec_body.specs.Decode.Decoded.{decoded, beyond, cut}
 use Rattle.spec_listing.specs.Edition.{Edition}
 use Rattle.spec_listing.specs.Labels.{labelOffsets, among, different}
 use Rattle.distinct.specs.Parts.{above}
-use Rattle.label_notes.specs.Notes.{Notes, noteAll}
+use Rattle.label_marks.specs.Notes.{Notes, noteAll}
 use Rattle.labels.specs.declared.collect.Walked.{Walked}
 use Rattle.labels.specs.declared.collect.Walked.the-variants as walked
 use Rattle.labels.specs.declared.collect.Collected.{Collected}

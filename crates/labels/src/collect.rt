@@ -4,7 +4,7 @@ ghost use Prim.Native.Nat.{_≤_};
 ghost use lib.ListN.{length, replicate};
 ghost use Rattle.spec_body.specs.Decode.{decodeBody};
 ghost use Rattle.labels.specs.Collecting.{tables, unnoted, walkOf, countOf, Noted, FarCounted, collectedOf, AllMarked};
-use label_notes::offsets::Counts;
+use label_marks::Counts;
 
 // How many near offsets a walk marked and how many far ones it met, or the instruction where decoding refuses.
 pub enum Walked {

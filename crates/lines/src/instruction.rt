@@ -1,5 +1,4 @@
 // One instruction as it is listed: format_instruction of disasm.rs.
-ghost use mathlib.Core.Path.{_≡_};
 ghost use Prim.Native.Nat.{_+_, _≤_};
 ghost use lib.Dec.{eqb};
 ghost use lib.ListN.{length};
@@ -10,7 +9,7 @@ ghost use Rattle.lists.specs.Write.{Put};
 ghost use Rattle.spec_body.specs.Record.{lengthOf, recordOf};
 ghost use Rattle.spec_body.specs.Decode.{rowAt};
 ghost use Rattle.spec_listing.specs.Line.{offsetText, instructionText};
-use crate::operand::put_operands;
+use operand_text::put_operands;
 use slices::write::put_bytes;
 
 // Writes an offset and two spaces, where offsets are shown.
@@ -18,7 +17,7 @@ fn put_offset(out: &mut [u8], k: usize, offsets: bool, at: usize) -> usize
     ensures { λ r. ⌜ Put (now (out .entry)) k (offsetText offsets at) (now (out .exit)) r ⌝ }
 {
     if offsets {
-        let a = numbers::print::put_hex_lower4(out, k, at as u64);
+        let a = print_hex::put_hex_lower4(out, k, at as u64);
         return put_bytes(out, a, b"  ");
     }
     k

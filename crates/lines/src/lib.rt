@@ -1,3 +1,2 @@
 // One instruction as a line of a listing, through the counting writer.
 pub mod instruction;
-pub mod operand;

@@ -14,12 +14,12 @@ use Rattle.spec_listing.specs.Labels.{labelsOf, labelOffsets, among, different}
 use Rattle.spec_listing.specs.Listing.{Listed, linesOf, longLine, entriesFor, unlessLong, listDecoded}
 use Rattle.labels.specs.Collecting.{tables, collectedOf, AllMarked}
 use Rattle.labels.specs.declared.collect.Collected.the-variants as collected
-use Rattle.listing.specs.Parts.{Decodes, recordsOf, Marked, editionOf, Lined}
-use Rattle.listing.specs.Parts.Lined.{all, over}
+use Rattle.body_lines.specs.Parts.{Decodes, recordsOf, Marked, editionOf, Lined}
+use Rattle.body_lines.specs.Parts.Lined.{all, over}
 use Rattle.listing.specs.Bodies.{refusalOf, Written}
 use Rattle.listing.specs.Bodies.Written.{whole, stopped}
-use Rattle.listing.specs.declared.body_lines.Lines.{Lines}
-use Rattle.listing.specs.declared.body_lines.Lines.the-variants as lines
+use Rattle.body_lines.specs.declared.Lines.{Lines}
+use Rattle.body_lines.specs.declared.Lines.the-variants as lines
 use Rattle.listing.specs.declared.body.Part.the-variants as part
 
 -- labels depend on no string

@@ -1,3 +1,2 @@
-pub mod LinesLoop
 pub mod WrittenLaws
 pub mod BodyLaws

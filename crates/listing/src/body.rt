@@ -5,9 +5,9 @@ ghost use lib.ListN.{length, replicate};
 ghost use Rattle.spec_body.specs.Decode.{decodeBody};
 ghost use Rattle.spec_listing.specs.Listing.{listDecoded};
 ghost use Rattle.lists.specs.Choice.{pick};
-ghost use Rattle.listing.specs.Parts.{optionsOf, editionOf};
+ghost use Rattle.body_lines.specs.Parts.{optionsOf, editionOf};
 ghost use Rattle.listing.specs.Bodies.{Written};
-use crate::body_lines::Lines;
+use body_lines::Lines;
 use labels::collect::Collected;
 
 // The next position and the label entries needed; or where the body is refused: 13, 14, 3.
@@ -49,7 +49,7 @@ fn list_marked(
     let c = labels::collect::collect_label_offsets(source, types, ops, last, s, marks);
     match c {
         Collected::Entries(n) => {
-            let l = crate::body_lines::list_lines(
+            let l = body_lines::list_lines(
                 offsets,
                 labels,
                 texts,

@@ -1,3 +1,2 @@
 // The listing of one body: disassemble_function of disasm.rs.
 pub mod body;
-pub mod body_lines;

@@ -3,3 +3,4 @@ pub mod Parts
 pub mod Scans
 pub mod Writes
 pub mod LeftToWrite
+pub mod Clears

@@ -1,4 +1,2 @@
-pub mod TitleLaws
-pub mod ModuleLaws
 pub mod ModuleLoop
 pub mod ModuleEnd

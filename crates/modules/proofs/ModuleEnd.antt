@@ -14,12 +14,12 @@ use Rattle.spec_listing.specs.Listing.Listed.{listed, refused}
 use Rattle.spec_listing.specs.Module.{Area, listAll}
 use Rattle.spec_listing.specs.Operation.{listOutcome, underInputs, listModule}
 use Rattle.endings.specs.Ends.{Ended}
-use Rattle.disasm.specs.Answers.{listReport}
-use Rattle.modules.specs.Modules.{partRefusal, ModuleWritten}
-use Rattle.modules.specs.Modules.ModuleWritten.{within, over, ended}
-use Rattle.disasm.specs.declared.answer.ListAnswer.the-variants.{TooLarge}
-use Rattle.modules.specs.declared.module_part.FunctionPart.{FunctionPart}
-use Rattle.modules.specs.declared.module_part.FunctionPart.the-variants as part
+use Rattle.list_answer.specs.Answers.{listReport}
+use Rattle.module_part.specs.Modules.{partRefusal, ModuleWritten}
+use Rattle.module_part.specs.Modules.ModuleWritten.{within, over, ended}
+use Rattle.list_answer.specs.declared.ListAnswer.the-variants.{TooLarge}
+use Rattle.module_part.specs.declared.FunctionPart.{FunctionPart}
+use Rattle.module_part.specs.declared.FunctionPart.the-variants as part
 use Rattle.endings.proofs.EndLaws.{refused-end, cleared}
 
 -- the number and place of a refusal are told

@@ -17,11 +17,11 @@ use Rattle.spec_listing.specs.Listing.{Listed, append}
 use Rattle.spec_listing.specs.Listing.Listed.{listed, refused}
 use Rattle.spec_listing.specs.Module.{Area, listFunctionIn, listFunctionsFrom, listAll}
 use Rattle.listing.proofs.WrittenLaws.{Text}
-use Rattle.modules.specs.Modules.{partRefusal, PartWritten, ModuleWritten}
-use Rattle.modules.specs.Modules.PartWritten.{complete, broken}
-use Rattle.modules.specs.Modules.ModuleWritten.{within, over, ended}
-use Rattle.modules.specs.declared.module_part.FunctionPart.{FunctionPart}
-use Rattle.modules.specs.declared.module_part.FunctionPart.the-variants as part
+use Rattle.module_part.specs.Modules.{partRefusal, PartWritten, ModuleWritten}
+use Rattle.module_part.specs.Modules.PartWritten.{complete, broken}
+use Rattle.module_part.specs.Modules.ModuleWritten.{within, over, ended}
+use Rattle.module_part.specs.declared.FunctionPart.{FunctionPart}
+use Rattle.module_part.specs.declared.FunctionPart.the-variants as part
 use Rattle.inputs.proofs.EndedLaws.{no-tag}
 
 -- the number of `Listed` is none of the others

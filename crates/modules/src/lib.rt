@@ -1,4 +1,2 @@
 // The listing of a whole module: each function of an area under its banner.
 pub mod module;
-pub mod module_part;
-pub mod title;

@@ -9,13 +9,13 @@ ghost use Rattle.spec_listing.specs.Listing.Listed.{refused};
 ghost use Rattle.spec_listing.specs.Module.{listAll};
 ghost use Rattle.spec_listing.specs.Operation as operation;
 ghost use Rattle.spec_listing.specs.Operation.{listOutcome};
-ghost use Rattle.listing.specs.Parts.{optionsOf, editionOf};
-ghost use Rattle.disasm.specs.Answers.{listReport, Ended};
-ghost use Rattle.disasm.specs.Functions.{areaOf};
-ghost use Rattle.modules.specs.Modules.{partRefusal, ModuleWritten};
-use crate::module_part::FunctionPart;
-use disasm::answer::ListAnswer;
+ghost use Rattle.body_lines.specs.Parts.{optionsOf, editionOf};
+ghost use Rattle.list_answer.specs.Answers.{listReport, Ended};
+ghost use Rattle.disasm_function.specs.Functions.{areaOf};
+ghost use Rattle.module_part.specs.Modules.{partRefusal, ModuleWritten};
 use inputs::Inputs;
+use list_answer::ListAnswer;
+use module_part::FunctionPart;
 use slices::write::clear;
 
 // A position that stays at 1,048,577 once it is past the largest listing, so that a later function's can be counted.
@@ -53,7 +53,7 @@ fn list_functions(
     let mut at: usize = 0;
     let mut most: usize = 0;
     while id < functions.len() / 3 {
-        let p = crate::module_part::list_function_in(
+        let p = module_part::list_function_in(
             offsets,
             labels,
             texts,
@@ -107,7 +107,7 @@ fn end_module(p: FunctionPart, lent: usize, out: &mut [u8]) -> ListAnswer
         clear(out);
         return ListAnswer::TooLarge;
     }
-    disasm::answer::measure(k, entries, lent, out)
+    list_answer::measure(k, entries, lent, out)
 }
 
 // Lists a module under the tables of a sheet, whose names are parts of `source`.
@@ -164,7 +164,7 @@ pub fn list_module(
     ensures { λ r. ⌜ Ended (operation.listModule (optionsOf offsets labels texts) (now (text .entry)) (now (bytes .entry)) (now (ends .entry)) (areaOf (now (functions .entry)) (now (area .entry)) base) (length (now (entries .entry)))) (now (out .entry)) (now (out .exit)) r ⌝ }
     ensures { λ _. ⌜ now (entries .exit) ≡ replicate (length (now (entries .entry))) 0 ⌝ }
 {
-    disasm::operation::clear_entries(entries);
+    clearing::clear_entries(entries);
     let mut types = [[0u8; 8]; 256];
     let mut ops = [[0usize; 4]; 256];
     let i = inputs::read_inputs(text, bytes, ends, &mut types, &mut ops);

@@ -57,7 +57,7 @@ pub fn find_indexed(
     let mut k = chains::chain::index_at(heads, h);
     while k < rows.len() {
         let row = rows[k];
-        if sheet::opcode::has_name(source, name, row) {
+        if sheet_rows::rows::has_name(source, name, row) {
             return Found::At(k);
         }
         k = chains::chain::index_at(nexts, k);

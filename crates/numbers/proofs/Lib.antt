@@ -1,5 +1,2 @@
-pub mod AnswerLaws
 pub mod ByteSums
-pub mod RoomLaws
 pub mod WidthLaws
-pub mod PrintTurns

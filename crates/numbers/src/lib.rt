@@ -1,5 +1,3 @@
 // Numbers as bytes and as text: what the desk reads and prints, each function equal to a definition of spec_numbers.
 pub mod io;
-pub mod parse;
-pub mod print;
 pub mod signed;

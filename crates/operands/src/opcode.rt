@@ -54,7 +54,7 @@ pub fn read_operand(code: u8, s: &[u8], at: usize) -> Operand
     requires { ⌜ at + widthOf code ≤ length (now s) ⌝ }
     ensures { λ r. ⌜ r ≡ operandAt code (now (s .entry)) at ⌝ }
 {
-    let bits = numbers::io::read_le(s, at, sheet_line::types::width(code));
-    let value = value_of(sheet_line::types::kind(code), bits);
+    let bits = numbers::io::read_le(s, at, operand_types::width(code));
+    let value = value_of(operand_types::kind(code), bits);
     Operand { value, bits }
 }

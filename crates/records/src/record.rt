@@ -24,7 +24,7 @@ pub fn instruction_length(row: [u8; 8]) -> usize
     let mut n: usize = 1;
     let mut i: usize = 0;
     while i < 8 {
-        n += sheet_line::types::width(row[i]);
+        n += operand_types::width(row[i]);
         i += 1;
     }
     n

@@ -14,8 +14,8 @@ pub fn number(b: u8) -> usize
 fn code_row(code: u8) -> [u8; 2]
     ensures { λ r. ⌜ r ≡ codeRow code ⌝ }
 {
-    let width = sheet_line::types::width(code) as u8;
-    let kind = sheet_line::types::kind(code);
+    let width = operand_types::width(code) as u8;
+    let kind = operand_types::kind(code);
     [width, kind]
 }
 

@@ -1,6 +1,9 @@
 // Assembling a recorded text: its input holds the string table and how many label entries are lent, too.
+ghost use Prim.Native.Nat.{_+_, _≤_};
+ghost use lib.ListN.{length};
 use crate::operations::Performed;
 use numbers::io::read_le;
+use slices::part::part_of;
 
 // What a word of a label entry holds before a call.
 const WORD: u32 = 0xA5A5A5A5;
@@ -48,37 +51,70 @@ fn assemble_text(
     Performed::NotClear
 }
 
-// Takes the input's parts; `ends` and `labels` are space for the string table's ends and for the label entries.
+// Takes the parts behind the input's three numbers: the ends, up to `from`, the `size` bytes of the strings, the text.
+fn assemble_parts(
+    sheet: &[u8],
+    rest: &[u8],
+    from: usize,
+    size: usize,
+    ends: &mut [u32],
+    out: &mut [u8],
+    labels: &mut [[u32; 3]],
+) -> Performed
+    requires { ⌜ («from» ≤ 256) × (size ≤ 4294967295) ⌝ }
+{
+    let behind = from + size;
+    if rest.len() < behind {
+        return Performed::Broken;
+    }
+    ends_of(rest, ends);
+    assemble_text(
+        sheet,
+        part_of(rest, from, size),
+        ends,
+        &rest[behind..],
+        out,
+        labels,
+    )
+}
+
+// A number in front of the input.
+fn size_at(input: &[u8], at: usize) -> usize
+    requires { ⌜ at + 4 ≤ length (now input) ⌝ }
+    ensures { λ r. ⌜ r ≤ 4294967295 ⌝ }
+{
+    (read_le(input, at, 4) % 0x1_0000_0000) as usize
+}
+
+// Takes the input's numbers; `ends` and `labels` are space for the string table's ends and for the label entries.
 fn assemble_within(
     sheet: &[u8],
     input: &[u8],
-    out: &mut [u8],
     ends: &mut [u32],
+    out: &mut [u8],
     labels: &mut [[u32; 3]],
 ) -> Performed {
     if input.len() < 12 {
         return Performed::Broken;
     }
-    let strings = read_le(input, 0, 4) as usize;
-    let size = read_le(input, 4, 4) as usize;
-    let lent = read_le(input, 8, 4) as usize;
-    if ends.len() < strings || labels.len() < lent {
+    let strings = size_at(input, 0);
+    let size = size_at(input, 4);
+    let lent = size_at(input, 8);
+    if 64 < strings {
         return Performed::Broken;
     }
-    if (input.len() - 12) / 4 < strings {
+    if ends.len() < strings {
         return Performed::Broken;
     }
-    let from = 12 + 4 * strings;
-    if input.len() - from < size {
+    if labels.len() < lent {
         return Performed::Broken;
     }
-    let behind = from + size;
-    ends_of(&input[12..from], &mut ends[0..strings]);
-    assemble_text(
+    assemble_parts(
         sheet,
-        &input[from..behind],
-        &ends[0..strings],
-        &input[behind..],
+        &input[12..],
+        4 * strings,
+        size,
+        &mut ends[0..strings],
         out,
         &mut labels[0..lent],
     )
@@ -88,5 +124,5 @@ fn assemble_within(
 pub fn assemble(sheet: &[u8], input: &[u8], out: &mut [u8]) -> Performed {
     let mut ends = [0u32; 64];
     let mut labels = [[WORD; 3]; 64];
-    assemble_within(sheet, input, out, &mut ends, &mut labels)
+    assemble_within(sheet, input, &mut ends, out, &mut labels)
 }

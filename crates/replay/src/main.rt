@@ -29,10 +29,11 @@
 //    12  part_unescape       as 11
 //    13  assemble            input: three numbers, the count of strings, of their bytes and of the label entries lent; the
 //                            strings' ends, their bytes, the text; expected: the body
+//    14  job::run            input: a job; expected: what the program prints
 //
 // 3 to 6 lend nothing: their room is 0 and is not looked at. They answer number 0 where the text is a number, else 1, and
 // length 0.
-// 7 to 12 answer number 0 and the whole text's length. In a smaller room the expected output is the text's front.
+// 7 to 12 and 14 answer number 0 and the whole text's length. In a smaller room the expected output is the text's front.
 //
 // A case agrees where the four numbers are the answer's, the lent space opens with the expected output, and behind it
 // every byte is still 0xA5 (number 0), or every lent byte is 0 (a refusal). Label entries, which are 0xA5 too before the
@@ -43,14 +44,13 @@
 // a sheet over 16,384 bytes, an input or expected output over 65,536 bytes, a room over 8,192 words or 65,536 bytes, more
 // than 64 strings or label entries, or a case behind the first 1,000,000.
 mod assembling;
-mod case;
-mod lent;
 mod operations;
 
-use case::Head;
-use case::HeadRead;
 use libc::STDOUT_FILENO;
 use operations::Performed;
+use replay_cases::case::Head;
+use replay_cases::case::HeadRead;
+use slices::part::part_of;
 
 // Why the replay stops at a case.
 enum Stop {
@@ -74,21 +74,14 @@ struct Outcome {
 const MOST_CASES: u64 = 1000000;
 
 // Runs a case whose parts have been read, and compares. `lent` has as many bytes as the case lends.
-fn compared(
-    head: Head,
-    sheet: &[u8],
-    input: &[u8],
-    expected: &[u8],
-    lent: &mut [u8],
-    words: &mut [u64],
-) -> Turn {
-    lent::fill(lent, lent::MARK);
-    match operations::perform(head.operation, sheet, input, lent, words) {
+fn compared(head: Head, sheet: &[u8], input: &[u8], expected: &[u8], lent: &mut [u8]) -> Turn {
+    replay_cases::lent::fill(lent, replay_cases::lent::MARK);
+    match operations::perform(head.operation, sheet, input, lent) {
         Performed::Answered(a) => {
             if !operations::same_answer(head, a) {
                 return Turn::Stops(Stop::Differs);
             }
-            if !lent::is_left(lent, expected, a.number) {
+            if !replay_cases::lent::is_left(lent, expected, a.number) {
                 return Turn::Stops(Stop::Differs);
             }
             Turn::Agrees(sheet.len())
@@ -98,51 +91,44 @@ fn compared(
     }
 }
 
-// Reads the parts of a case, and compares. `used` is the length of the sheet of the case before.
+// Lends as many bytes as the case says, and compares.
+fn lend(head: Head, sheet: &[u8], input: &[u8], expected: &[u8]) -> Turn {
+    let size = operations::lent_size(head.operation, head.room);
+    if 65536 < size {
+        return Turn::Stops(Stop::Broken);
+    }
+    let mut lent = byte_space();
+    compared(head, sheet, input, expected, &mut lent[0..size])
+}
+
+// How many bytes the sheet of a case has; `used` is that of the case before.
+fn sheet_size(head: Head, used: usize) -> usize {
+    if head.sheet == 0 { used } else { head.sheet }
+}
+
+// Reads the parts of a case, and compares.
 fn try_case(
     head: Head,
     used: usize,
     sheet: &mut [u8],
     input: &mut [u8],
     expected: &mut [u8],
-    lent: &mut [u8],
-    words: &mut [u64],
 ) -> Turn {
-    if !case::read_parts(head, sheet, input, expected) {
+    if !replay_cases::case::read_parts(head, sheet, input, expected) {
         return Turn::Stops(Stop::Broken);
     }
-    let room = head.room;
-    if 65536 < room {
-        return Turn::Stops(Stop::Broken);
-    }
-    let s = if head.sheet == 0 { used } else { head.sheet };
-    let n = head.input;
-    let m = head.expected;
-    let size = operations::lent_size(head.operation, room);
-    if sheet.len() < s || input.len() < n || expected.len() < m || lent.len() < size {
-        return Turn::Stops(Stop::Broken);
-    }
-    compared(
+    lend(
         head,
-        &sheet[0..s],
-        &input[0..n],
-        &expected[0..m],
-        &mut lent[0..size],
-        words,
+        part_of(sheet, 0, sheet_size(head, used)),
+        part_of(input, 0, head.input),
+        part_of(expected, 0, head.expected),
     )
 }
 
 // The next case.
-fn next_case(
-    used: usize,
-    sheet: &mut [u8],
-    input: &mut [u8],
-    expected: &mut [u8],
-    lent: &mut [u8],
-    words: &mut [u64],
-) -> Turn {
-    match case::read_head() {
-        HeadRead::Is(head) => try_case(head, used, sheet, input, expected, lent, words),
+fn next_case(used: usize, sheet: &mut [u8], input: &mut [u8], expected: &mut [u8]) -> Turn {
+    match replay_cases::case::read_head() {
+        HeadRead::Is(head) => try_case(head, used, sheet, input, expected),
         HeadRead::End => Turn::Stops(Stop::End),
         HeadRead::Broken => Turn::Stops(Stop::Broken),
     }
@@ -150,7 +136,7 @@ fn next_case(
 
 // Behind the last case that may be there.
 fn last_stop() -> Stop {
-    if case::at_end() {
+    if replay_cases::case::at_end() {
         Stop::End
     } else {
         Stop::Broken
@@ -158,17 +144,11 @@ fn last_stop() -> Stop {
 }
 
 // All cases.
-fn replay(
-    sheet: &mut [u8],
-    input: &mut [u8],
-    expected: &mut [u8],
-    lent: &mut [u8],
-    words: &mut [u64],
-) -> Outcome {
+fn replay(sheet: &mut [u8], input: &mut [u8], expected: &mut [u8]) -> Outcome {
     let mut used: usize = 0;
     let mut n: u64 = 0;
     while n < MOST_CASES {
-        let t = next_case(used, sheet, input, expected, lent, words);
+        let t = next_case(used, sheet, input, expected);
         match t {
             Turn::Agrees(s) => {
                 used = s;
@@ -209,15 +189,9 @@ fn byte_space() -> [u8; 65536] {
     [0; 65536]
 }
 
-fn word_space() -> [u64; 8192] {
-    [0; 8192]
-}
-
 fn main() {
     let mut sheet = sheet_space();
     let mut input = byte_space();
     let mut expected = byte_space();
-    let mut lent = byte_space();
-    let mut words = word_space();
-    tell(replay(&mut sheet, &mut input, &mut expected, &mut lent, &mut words));
+    tell(replay(&mut sheet, &mut input, &mut expected));
 }

@@ -1,13 +1,13 @@
 // Readings at a place of a text: each answers a value and the place behind it, or that the text is not of the form.
 ghost use mathlib.Core.Path.{_≡_};
-ghost use Prim.Native.Nat.{_+_, _-_, _^_, _≤_, _<_};
+ghost use Prim.Native.Nat.{_+_, _-_, _≤_};
 ghost use lib.ListN.{length, drop, getD};
 ghost use Rattle.lists.specs.Scan.{run};
 ghost use Rattle.spec_sheet.specs.Scan.{literalAt, isUpper, isNameByte, numberAt, keyedAt, mayBeName, nameAt, typeAt};
 ghost use Rattle.sheet_line.specs.Answers.{stepOf, isWordByte};
 ghost use Rattle.lists.specs.Choice.{both};
 ghost use lib.Dec.{eqb, ltb, leb};
-use numbers::parse::Number;
+use parse_numbers::Number;
 use slices::compare::is_within;
 
 pub enum Step {
@@ -89,7 +89,7 @@ pub fn number_at(s: &[u8], at: usize, most: u64) -> Step
         return Step::Off;
     }
     let digits = slices::part::part_of(s, at, k);
-    let value = numbers::parse::unsigned_value(digits, 0, 10, most);
+    let value = parse_numbers::unsigned_value(digits, 0, 10, most);
     match value {
         Number::Is(n) => Step::Next(n, at + k),
         Number::Bad => Step::Off,
@@ -171,7 +171,7 @@ pub fn type_at(s: &[u8], at: usize) -> Step
     if has_four(s, at) {
         let k = 4 + count_word(s, at + 4, true);
         let end = at + k;
-        let code = crate::types::type_code(&s[at..end]);
+        let code = operand_types::type_code(&s[at..end]);
         if code == 0 {
             return Step::Off;
         }

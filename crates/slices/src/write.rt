@@ -1,7 +1,7 @@
 // The counting writer: it writes what fits and answers the next position whether or not it fits, so that the space
 // needed is known exactly when everything has been written once.
 ghost use mathlib.Core.Path.{_≡_};
-ghost use mathlib.Core.List.{List, [], _∷_};
+ghost use mathlib.Core.List.{[], _∷_};
 ghost use Prim.Native.Nat.{_+_, _≤_};
 ghost use lib.ListN.{length, replicate};
 ghost use Rattle.lists.specs.Write.{Put};

@@ -26,7 +26,7 @@ fn text_of<'a>(bytes: &'a [u8], ends: &[u32], id: usize) -> &'a [u8]
 {
     let start = start_of(ends, id);
     let end = chains::chain::index_at(ends, id);
-    strings::table::entry_part(bytes, start, end)
+    string_table::entry_part(bytes, start, end)
 }
 
 // The bucket of a text among m.

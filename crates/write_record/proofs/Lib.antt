@@ -1,2 +1,1 @@
-pub mod OperandsLoop
 pub mod RecordLaws

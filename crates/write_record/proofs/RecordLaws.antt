@@ -12,17 +12,19 @@ use Rattle.lists.proofs.Tests.{both-left}
 use Rattle.lists.proofs.Parts.{part-at, part-length}
 use Rattle.spec_body.specs.Record.{countOf}
 use Rattle.spec_body.specs.Encode.{Encoded, goodShape, encodeOperands, withOperands, encodeRecord}
-use Rattle.write_operands.specs.Ahead.{recordAt, pairsAt, PlainPut}
-use Rattle.write_record.specs.Written.{Operanded, Turn, encodeReport}
-use Rattle.write_operands.specs.Plain.{plainRecord}
-use Rattle.write_record.specs.Written.Operanded.{whole, misfits}
+use Rattle.plain_records.specs.Ahead.{recordAt, pairsAt, PlainPut}
+use Rattle.write_record.specs.Written.{Turn}
+use Rattle.record_operands.specs.OperandsWritten.{Operanded}
+use Rattle.encode_answer.specs.Answers.{encodeReport}
+use Rattle.plain_records.specs.Plain.{plainRecord}
+use Rattle.record_operands.specs.OperandsWritten.Operanded.{whole, misfits}
 use Rattle.write_record.specs.Written.Turn.{went, stopped}
-use Rattle.write_operands.proofs.AheadLaws.{not-ahead, more-ahead}
-use Rattle.write_operands.proofs.PlainRecords.{plain-encoded}
-use Rattle.write_record.specs.declared.record.EncodeAnswer.{EncodeAnswer}
-use Rattle.write_record.specs.declared.record.EncodeAnswer.the-variants.{Done, Shape, Beyond, Count, Misfit}
-use Rattle.write_record.specs.declared.record.Wrote.{Wrote}
-use Rattle.write_record.specs.declared.record.Wrote.the-variants as wrote
+use Rattle.plain_records.proofs.AheadLaws.{not-ahead, more-ahead}
+use Rattle.plain_records.proofs.PlainRecords.{plain-encoded}
+use Rattle.encode_answer.specs.declared.EncodeAnswer.{EncodeAnswer}
+use Rattle.encode_answer.specs.declared.EncodeAnswer.the-variants.{Done, Shape, Beyond, Count, Misfit}
+use Rattle.record_operands.specs.declared.Wrote.{Wrote}
+use Rattle.record_operands.specs.declared.Wrote.the-variants as wrote
 
 module _ (types : List (List ℕ)) (last i at : ℕ) (words out out′ : List ℕ) («from» : ℕ) where
   abbrev this : EncodeAnswer → Type 0

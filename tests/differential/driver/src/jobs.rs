@@ -1,21 +1,26 @@
-// Writes the Rust's listings as jobs with what they print: the cases of crate `replay_jobs`, whose source says the format.
+// The Rust's listings and bodies as jobs with what the program prints for them, for the replay.
 
+use crate::asked::Asked;
+use crate::asm_texts;
+use crate::assemble::{self, Table};
 use crate::desk::Answer;
 use crate::listing::{self, Spare, DEFAULT};
 use crate::random::Random;
 use crate::rust;
 use crate::sheets::{self, Sheet};
 use crate::tally::hex;
-use std::fs;
 
-fn list_job(sheet: &Sheet, strings: &[String], body: &[u8]) -> Vec<u8> {
-    let mut job = b"job=list\n".to_vec();
+/// A job and what is printed for it.
+pub type Case = (Vec<u8>, String);
+
+/// The lines of a job in front of its last.
+fn job(word: &str, sheet: &Sheet, strings: &[String]) -> Vec<u8> {
+    let mut job = format!("job={word}\n").into_bytes();
     job.extend_from_slice(&sheet.text);
     job.extend(format!("strings={}\n", strings.len()).bytes());
     for s in strings {
         job.extend(format!("s={}\n", hex(s.as_bytes())).bytes());
     }
-    job.extend(format!("body={}\n", hex(body)).bytes());
     job
 }
 
@@ -24,7 +29,7 @@ fn refused(a: &Answer) -> String {
 }
 
 /// What the program prints: it lends 65,536 bytes and 4,096 label entries.
-fn printed(sheet: &Sheet, strings: &[String], body: &[u8]) -> String {
+fn listed(sheet: &Sheet, strings: &[String], body: &[u8]) -> String {
     let mut f = rust::file_of(&[]);
     rust::set_strings(&mut f, strings);
     let run = listing::expected(&mut f, sheet, body, DEFAULT, Spare { bytes: 0, entries: 0 });
@@ -37,30 +42,42 @@ fn printed(sheet: &Sheet, strings: &[String], body: &[u8]) -> String {
     String::from_utf8(run.out).unwrap()
 }
 
-pub fn write(path: &str) {
+fn list_job(r: &mut Random, sheet: &Sheet) -> Case {
+    let strings = listing::strings(r);
+    let most = r.below(80);
+    let mut body = listing::body(r, sheet, strings.len(), most);
+    if r.one_in(5) && !sheet.ops.iter().any(|o| o.types.contains(&listing::DOUBLE)) {
+        crate::decode::damage(r, &mut body);
+    }
+    let mut job = job("list", sheet, &strings);
+    job.extend(format!("body={}\n", hex(&body)).bytes());
+    (job, listed(sheet, &strings, &body))
+}
+
+/// None where the Rust cannot be asked, or does not tell the operand.
+fn assemble_job(r: &mut Random, sheet: &Sheet) -> Option<Case> {
+    let table = Table::new(asm_texts::strings(r));
+    let text = assemble::random_text(r, sheet, &table, &mut rust::file_of(&[]));
+    let e = assemble::expected(&Asked::new(sheet), &table, &text, assemble::EXACT)?;
+    let printed = match e.run.answer.number {
+        0 => format!("body={}\n", hex(&e.run.out)),
+        _ => refused(&e.run.answer),
+    };
+    let mut job = job("assemble", sheet, &table.strings);
+    job.extend(b"text=\n");
+    job.extend(text);
+    e.whole.then_some((job, printed))
+}
+
+/// As many jobs as asked for, two that list to one that assembles.
+pub fn cases(count: usize) -> Vec<Case> {
     let mut r = Random::new(5);
     let sheets = sheets::for_run(&mut r);
-    let mut file = Vec::new();
-    let mut cases = 0;
-    while cases < 600 {
+    let mut all = Vec::new();
+    while all.len() < count {
         let sheet = r.pick(&sheets);
-        let strings = listing::strings(&mut r);
-        let most = r.below(80);
-        let mut body = listing::body(&mut r, sheet, strings.len(), most);
-        if r.one_in(5) && !sheet.ops.iter().any(|o| o.types.contains(&listing::DOUBLE)) {
-            crate::decode::damage(&mut r, &mut body);
-        }
-        let job = list_job(sheet, &strings, &body);
-        let text = printed(sheet, &strings, &body);
-        if job.len() + text.len() > 3000 {
-            continue;
-        }
-        file.extend((job.len() as u32).to_le_bytes());
-        file.extend((text.len() as u32).to_le_bytes());
-        file.extend(job);
-        file.extend(text.bytes());
-        cases += 1;
+        let case = if all.len() % 3 == 2 { assemble_job(&mut r, sheet) } else { Some(list_job(&mut r, sheet)) };
+        all.extend(case.filter(|(job, text)| job.len() + text.len() <= 3000));
     }
-    fs::write(path, &file).expect("the file is written");
-    println!("{cases} cases");
+    all
 }

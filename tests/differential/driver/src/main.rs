@@ -77,9 +77,8 @@ fn main() {
         }
         "bench" => bench::run(words.get(1).map_or("", |w| w.as_str())),
         "replay" => replay::write(words.get(1).expect("the file to write")),
-        "jobs" => jobs::write(words.get(1).expect("the file to write")),
         _ => {
-            eprintln!("compare [SEED [COUNT]] | bench [PART] | replay FILE | jobs FILE");
+            eprintln!("compare [SEED [COUNT]] | bench [PART] | replay FILE");
             std::process::exit(2);
         }
     }

@@ -5,6 +5,7 @@ use crate::asm_texts::{self, TOKENS};
 use crate::assemble::{self, Table};
 use crate::decode;
 use crate::encode;
+use crate::jobs;
 use crate::listing::Spare;
 use crate::random::Random;
 use crate::rust;
@@ -225,6 +226,9 @@ pub fn write(path: &str) {
         assembling(&mut file, &mut r, sheet, 25);
     }
     tokens(&mut file);
+    for (job, printed) in jobs::cases(900) {
+        file.printed(14, &job, &printed);
+    }
     std::fs::write(path, &file.bytes).expect("the file is written");
     println!("{} cases, {} bytes, lent space filled with {BYTE:02X}", file.cases, file.bytes.len());
 }

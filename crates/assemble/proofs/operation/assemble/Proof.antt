@@ -1,4 +1,4 @@
-use Rattle.assemble.specs.Answers.{assembleReport}
+use Rattle.assemble_answer.specs.Answers.{assembleReport}
 use Rattle.endings.proofs.EndLaws.{refused-end}
 use Rattle.inputs.proofs.EndedLaws.{few-strings, not-ready}
 use Rattle.assemble.proofs.OperationLaws.{assemble-large, read-text, refused-text}

@@ -1,8 +1,8 @@
 use Rattle.inputs.proofs.EndedLaws.{read-on, refused-on, not-ready}
 use Rattle.disasm.proofs.OperationLaws.{list-large, list-small, bodyUnder}
 use Rattle.endings.proofs.EndLaws.{refused-end}
-use Rattle.disasm.specs.Answers.{listReport}
-use Rattle.listing.specs.Parts.{optionsOf}
+use Rattle.list_answer.specs.Answers.{listReport}
+use Rattle.body_lines.specs.Parts.{optionsOf}
 use mathlib.Core.Path.{refl, sym}
 use borrow.Author.Needs.{needs}
 use Rattle.disasm.proofs.operation.list.Statement.{statement}

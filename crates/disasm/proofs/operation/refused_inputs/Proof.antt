@@ -1,4 +1,4 @@
-use Rattle.disasm.specs.Answers.{listReport}
+use Rattle.list_answer.specs.Answers.{listReport}
 use Rattle.inputs.specs.Read.{inputsReport}
 use mathlib.Core.Path.{sym, ap}
 use borrow.Author.Needs.{needs}

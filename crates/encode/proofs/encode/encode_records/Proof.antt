@@ -1,7 +1,7 @@
 use mathlib.Core.Path.{refl}
 use native.Mathlib.Omega.{arith}
 use Prim.Native.Nat.{_-_}
-use Rattle.write_operands.proofs.AheadLaws.{ahead-length}
+use Rattle.plain_records.proofs.AheadLaws.{ahead-length}
 use Rattle.encode.proofs.RecordsLoop.{Going, start, turn, stops, cut, ended, other-tag}
 use borrow.Author.Needs.{needs}
 use Rattle.encode.proofs.encode.encode_records.Statement.{statement}

@@ -1,5 +1,5 @@
 use Rattle.hasm_body.proofs.BodyTurns.{Body, text-start, text-end, text-line, text-turn, text-refused}
-use Rattle.hasm_operands.specs.Puts.{edition, labelsOf}
+use Rattle.hasm_operands.specs.Editions.{edition, labelsOf}
 use lib.ListN.{length}
 use native.Mathlib.Omega.{arith}
 use Prim.Native.Nat.{_-_}

@@ -1,14 +1,14 @@
+use native.Mathlib.Omega.{arith}
 use Rattle.hasm_body.proofs.InstructionLaws.{found-opcode, missing-opcode}
 use mathlib.Core.Path.{sym, _∙_}
-use borrow.Author.Needs.{needs}
 use Rattle.hasm_body.proofs.line.opcode_in.Statement.{statement}
 use Rattle.hasm_body.proofs.line.opcode_in.Tie as tie
 
 enum-known-f : tie.Need-enum-known-f
-enum-known-f c = search needs
+enum-known-f c = omega arith
 
 enum-told : tie.Need-enum-told
-enum-told c = search needs
+enum-told c = omega arith
 
 returns : tie.Need-returns
 returns c = λ x e. found-opcode _ x (sym (c .before .f .given .1) ∙ e)

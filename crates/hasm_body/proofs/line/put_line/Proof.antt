@@ -1,6 +1,6 @@
 use Rattle.hasm_body.proofs.LineTurns.{part-short, turn-nothing, turn-label, turn-code}
 use Rattle.hasm_labels.proofs.LineTurns.{was-code}
-use Rattle.hasm_operands.specs.Puts.{edition, labelsOf}
+use Rattle.hasm_operands.specs.Editions.{edition, labelsOf}
 use mathlib.Core.List.{[]}
 use native.Mathlib.Omega.{arith}
 use borrow.Author.Needs.{needs}
@@ -8,19 +8,19 @@ use Rattle.hasm_body.proofs.line.put_line.Statement.{statement}
 use Rattle.hasm_body.proofs.line.put_line.Tie as tie
 
 line-of-requires : tie.Need-line-of-requires
-line-of-requires c κs = search needs
+line-of-requires c κs = omega arith
 
 read-statement-requires : tie.Need-read-statement-requires
 read-statement-requires c κs = search needs
 
 enum-told : tie.Need-enum-told
-enum-told c = search needs
+enum-told c = omega arith
 
 enum-told-2 : tie.Need-enum-told-2
-enum-told-2 c = search needs
+enum-told-2 c = omega arith
 
 enum-known-statement : tie.Need-enum-known-statement
-enum-known-statement c = search needs
+enum-known-statement c = omega arith
 
 sub-put-instruction : tie.Need-sub-put-instruction
 sub-put-instruction c = let z = was-code _ _ _ _ (rw (c .before .statement .given .1) at (c .before .before .before .read-statement .ensures [] [] [])) in omega (arith, z .1)
@@ -41,10 +41,10 @@ returns-2 : tie.Need-returns-2
 returns-2 c = let a = c .before .before .before .before .before .before .before .before .before .before .before .before .before .before .args in let e = edition (a .source .now) (a .types .now) (a .ops .now) (a .bytes .now) (a .ends .now) in ((λ o n g. turn-label e (labelsOf e (a .text .now)) (a .text .now) (a .at) (a .end) (a .offset) (c .before .before .before .before .before .before .before .before .before .before .before .before .before .before .pre .1 .0) _ (c .before .before .before .line-of .ensures) g _ _ (rw (c .enum-told2 .given .1) at (c .before .before .read-statement .ensures (a .types .now) (a .bytes .now) (a .ends .now)))), omega arith)
 
 same-length : tie.Need-same-length
-same-length c = search needs
+same-length c = omega arith
 
 same-length-2 : tie.Need-same-length-2
-same-length-2 c = search needs
+same-length-2 c = omega arith
 
 returns-3 : tie.Need-returns-3
 returns-3 c = let a = c .before .before .before .before .before .before .before .before .before .before .before .before .before .before .before .before .before .before .before .before .before .before .before .args in let e = edition (a .source .now) (a .types .now) (a .ops .now) (a .bytes .now) (a .ends .now) in ((λ o n g. turn-code e (labelsOf e (a .text .now)) (a .text .now) (a .at) (a .end) (a .offset) (c .before .before .before .before .before .before .before .before .before .before .before .before .before .before .before .before .before .before .before .before .before .before .before .pre .1 .0) _ (c .before .before .before .before .before .before .before .before .before .before .before .before .line-of .ensures) g _ _ (rw (c .before .before .before .before .before .before .before .before .before .statement .given .1) at (c .before .before .before .before .before .before .before .before .before .before .before .read-statement .ensures (a .types .now) (a .bytes .now) (a .ends .now))) (c .before .before .before .before .put-instruction .ensures .0)), c .before .before .before .before .put-instruction .ensures .1)

@@ -1,5 +1,5 @@
 use Rattle.hasm_operands.proofs.ValueLaws.{of-address}
-use Rattle.hasm_operands.specs.Puts.{edition, labelsOf}
+use Rattle.hasm_operands.specs.Editions.{edition, labelsOf}
 use mathlib.Core.Path.{sym, _∙_}
 use borrow.Author.Needs.{needs}
 use Rattle.hasm_operands.proofs.value.operand_value.Statement.{statement}

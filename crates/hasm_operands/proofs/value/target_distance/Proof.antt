@@ -1,6 +1,6 @@
 use Rattle.hasm_operands.proofs.ValueLaws.{to-offset, to-label, to-none}
-use Rattle.hasm_operands.specs.Puts.{edition, labelsOf}
-use Rattle.tokens.proofs.AddressLaws.{offset-answer}
+use Rattle.hasm_operands.specs.Editions.{edition, labelsOf}
+use Rattle.token_address.proofs.AddressLaws.{offset-answer}
 use native.Mathlib.Omega.{arith}
 use borrow.Author.Needs.{needs}
 use Rattle.hasm_operands.proofs.value.target_distance.Statement.{statement}

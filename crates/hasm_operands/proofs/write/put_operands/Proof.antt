@@ -3,7 +3,7 @@ use Rattle.lists.proofs.Writes.{kept-length}
 use mathlib.Core.Path.{_≡_, refl}
 use native.Mathlib.Omega.{arith}
 use Rattle.hasm_operands.proofs.OperandsLoop.{Going, start, at-zero, at-end, turn, refuses}
-use Rattle.hasm_operands.specs.Puts.{edition, labelsOf}
+use Rattle.hasm_operands.specs.Editions.{edition, labelsOf}
 use lib.ListN.{length}
 use Prim.Native.Nat.{_-_}
 use borrow.Author.Needs.{needs}

@@ -1,6 +1,6 @@
 use native.Mathlib.Omega.{arith}
-use Rattle.job.proofs.ListLaws.{line-prints}
-use Rattle.job.proofs.ReadLaws.{was-edition, was-bad-edition, edition-fits, front}
+use Rattle.printed.proofs.PrintLaws.{line-prints}
+use Rattle.job_reader.proofs.ReadLaws.{was-edition, was-bad-edition, edition-fits, front}
 use Rattle.job.proofs.RunLaws.{list-prints, assemble-prints, edition-off}
 use borrow.Author.Needs.{needs}
 use Rattle.job.proofs.run.print_job.Statement.{statement}

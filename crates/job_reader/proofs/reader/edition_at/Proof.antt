@@ -1,5 +1,5 @@
 use Rattle.sheet.proofs.SheetAnswers as sheet
-use Rattle.job_reader.proofs.TableAnswerLaws as table
+use Rattle.job_table.proofs.TableAnswerLaws as table
 use Rattle.job_reader.proofs.EditionLaws.{read-whole, strings-off, line-inside, sheet-off}
 use mathlib.Core.Path.{sym, _∙_}
 use native.Mathlib.Omega.{arith}

@@ -1,4 +1,4 @@
-use Rattle.label_notes.proofs.NoteLaws.{one-noted, none-noted}
+use Rattle.label_marks.proofs.NoteLaws.{one-noted, none-noted}
 use mathlib.Core.Path.{sym, _∙_}
 use borrow.Author.Needs.{needs}
 use Rattle.label_notes.proofs.offsets.note_behind.Statement.{statement}

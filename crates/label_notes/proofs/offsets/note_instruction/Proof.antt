@@ -1,4 +1,4 @@
-use Rattle.label_notes.specs.Notes.{notesOf}
+use Rattle.label_marks.specs.Notes.{notesOf}
 use Rattle.label_notes.proofs.InstructionLaws.{behind-few, plain-few, jump-noted, plain-noted}
 use native.Mathlib.Omega.{arith}
 use borrow.Author.Needs.{needs}

@@ -1,5 +1,5 @@
 use Rattle.label_notes.proofs.TargetsLoop.{Going, start, operand-inside, turn, all-noted, all-few}
-use Rattle.label_notes.specs.Notes.{notesOf}
+use Rattle.label_marks.specs.Notes.{notesOf}
 use lib.ListN.{length}
 use native.Mathlib.Omega.{arith}
 use Prim.Native.Nat.{_-_, _<_}

@@ -1,7 +1,7 @@
 use native.Mathlib.Omega.{arith}
 use Prim.Native.Nat.{_-_}
 use lib.ListN.{length}
-use Rattle.label_notes.specs.Notes.{notesOf}
+use Rattle.label_marks.specs.Notes.{notesOf}
 use Rattle.labels.specs.Collecting.{tables}
 use Rattle.labels.proofs.WalkLoop.{Going, start, ended, stopped, broken, turn, ended-beyond, ended-cut, ended-met}
 use borrow.Author.Needs.{needs}

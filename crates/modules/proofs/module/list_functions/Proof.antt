@@ -1,8 +1,8 @@
 use native.Mathlib.Omega.{arith}
 use lib.ListN.{length}
 use Prim.Native.Nat.{_-_, _/_}
-use Rattle.disasm.specs.Functions.{areaOf}
-use Rattle.listing.specs.Parts.{optionsOf, editionOf}
+use Rattle.disasm_function.specs.Functions.{areaOf}
+use Rattle.body_lines.specs.Parts.{optionsOf, editionOf}
 use Rattle.modules.proofs.ModuleLoop.{Listing, listing-start, listing-turn, listing-stopped, listing-finished, not-listed}
 use borrow.Author.Needs.{needs}
 use Rattle.modules.proofs.module.list_functions.Statement.{statement}

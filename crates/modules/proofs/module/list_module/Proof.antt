@@ -1,7 +1,7 @@
 use Rattle.inputs.proofs.EndedLaws.{read-on, refused-on, not-ready}
 use Rattle.modules.proofs.ModuleEnd.{moduleUnder, module-is}
-use Rattle.disasm.specs.Functions.{areaOf}
-use Rattle.listing.specs.Parts.{optionsOf}
+use Rattle.disasm_function.specs.Functions.{areaOf}
+use Rattle.body_lines.specs.Parts.{optionsOf}
 use mathlib.Core.Path.{sym}
 use borrow.Author.Needs.{needs}
 use Rattle.modules.proofs.module.list_module.Statement.{statement}

@@ -1,6 +1,6 @@
 use mathlib.Core.Path.{ap}
-use Rattle.modules.specs.Modules.{partRefusal}
-use Rattle.disasm.specs.Answers.{listReport}
+use Rattle.module_part.specs.Modules.{partRefusal}
+use Rattle.list_answer.specs.Answers.{listReport}
 use Rattle.modules.proofs.ModuleEnd.{part-told, no-refusal}
 use borrow.Author.Needs.{needs}
 use Rattle.modules.proofs.module.refused_part.Statement.{statement}

@@ -3,8 +3,8 @@ use mathlib.Core.Path.{sym, _∙_, ap}
 use Prim.Native.Nat.{_-_}
 use native.Mathlib.Omega.{arith}
 use Rattle.sheet.specs.Sheets.{opsOf}
-use Rattle.sheet.specs.Marks.{Marked}
-use Rattle.sheet.proofs.MarkLaws.{none-marked}
+use Rattle.sheet_rows.specs.Marks.{Marked}
+use Rattle.sheet_rows.proofs.MarkLaws.{none-marked}
 use Rattle.sheet.proofs.OpsLoop.{Going, start, ended, stopped, small, turn, not-all, tables}
 use Prim.Native.Nat.{ℕ}
 use Rattle.sheet.specs.declared.opcode.Ops.the-variants.{All}

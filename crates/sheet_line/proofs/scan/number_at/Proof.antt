@@ -1,5 +1,5 @@
 use Rattle.sheet_line.specs.Answers.{stepOf}
-use Rattle.numbers.proofs.AnswerLaws.{number-is, number-bad}
+use Rattle.parse_numbers.proofs.AnswerLaws.{number-is, number-bad}
 use Rattle.spec_numbers.specs.Parse.{unsignedValue}
 use Rattle.spec_sheet.proofs.ScanLaws.{number-padded, number-value, number-none}
 use mathlib.Core.Path.{sym, _∙_, ap}

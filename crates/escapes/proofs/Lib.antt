@@ -1,0 +1,2 @@
+pub mod EscapeTurns
+pub mod BareLaws

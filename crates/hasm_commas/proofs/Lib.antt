@@ -1,0 +1,2 @@
+pub mod CommaLaws
+pub mod OperandLaws

@@ -1,0 +1,2 @@
+pub mod WhiteLaws
+pub mod MarkLaws

@@ -1,0 +1,3 @@
+pub mod HexAnswerLaws
+pub mod StringsLoop
+pub mod TableAnswerLaws

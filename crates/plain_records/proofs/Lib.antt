@@ -1,0 +1,5 @@
+pub mod ShapeLaws
+pub mod PlainLaws
+pub mod AheadLaws
+pub mod PlainWrites
+pub mod PlainRecords

@@ -1,4 +1,0 @@
-pub mod TokenLaws
-pub mod BoundLaws
-pub mod AddressLaws
-pub mod TextLaws

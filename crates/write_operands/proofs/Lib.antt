@@ -1,6 +1,0 @@
-pub mod OperandLaws
-pub mod ShapeLaws
-pub mod PlainLaws
-pub mod AheadLaws
-pub mod PlainWrites
-pub mod PlainRecords

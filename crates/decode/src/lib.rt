@@ -1,2 +1,2 @@
-// Decoding a body into records: decode_function_instructions of instructions.rs.
+// The decoding operations: a body, and one function of an area.
 pub mod instructions;

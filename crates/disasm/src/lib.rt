@@ -1,2 +1,2 @@
-// The listing operations: a body, and one function of an area.
+// The operation that lists a body.
 pub mod operation;

@@ -1,4 +1,4 @@
-// Listing a body, and one function of an area.
+// Listing a body.
 ghost use mathlib.Core.Path.{_≡_};
 ghost use mathlib.Core.List.{[]};
 ghost use Prim.Native.Nat.{_≤_};

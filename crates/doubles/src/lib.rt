@@ -1,3 +1,3 @@
-// Doubles by their 64 bits: whole ones as decimal numbers, the rest by their hex digits.
+// Doubles by their 64 bits: which of them are whole, and their value.
 pub mod value;
 pub mod whole;

@@ -1,2 +1,2 @@
-// The lines of an assembler's text and what stands in one: white space, comments, operands between commas.
+// The lines of an assembler's text.
 pub mod lines;

@@ -1,2 +1,2 @@
-// A job's parts, read into lent arrays: a line of hex, the string table, the edition and the body.
+// What a job asks for, and its edition, body or text, read into lent arrays.
 pub mod reader;

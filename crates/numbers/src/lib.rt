@@ -1,3 +1,3 @@
-// Numbers as bytes and as text: what the desk reads and prints, each function equal to a definition of spec_numbers.
+// Numbers as bytes: little-endian, and signed ones by their bits.
 pub mod io;
 pub mod signed;

@@ -47,9 +47,9 @@ mod assembling;
 mod operations;
 
 use libc::STDOUT_FILENO;
-use operations::Performed;
 use replay_cases::case::Head;
 use replay_cases::case::HeadRead;
+use replay_cases::parts::Performed;
 use slices::part::part_of;
 
 // Why the replay stops at a case.
@@ -78,7 +78,7 @@ fn compared(head: Head, sheet: &[u8], input: &[u8], expected: &[u8], lent: &mut 
     replay_cases::lent::fill(lent, replay_cases::lent::MARK);
     match operations::perform(head.operation, sheet, input, lent) {
         Performed::Answered(a) => {
-            if !operations::same_answer(head, a) {
+            if !replay_cases::parts::same_answer(head, a) {
                 return Turn::Stops(Stop::Differs);
             }
             if !replay_cases::lent::is_left(lent, expected, a.number) {
@@ -93,7 +93,7 @@ fn compared(head: Head, sheet: &[u8], input: &[u8], expected: &[u8], lent: &mut 
 
 // Lends as many bytes as the case says, and compares.
 fn lend(head: Head, sheet: &[u8], input: &[u8], expected: &[u8]) -> Turn {
-    let size = operations::lent_size(head.operation, head.room);
+    let size = replay_cases::parts::lent_size(head.operation, head.room);
     if 65536 < size {
         return Turn::Stops(Stop::Broken);
     }

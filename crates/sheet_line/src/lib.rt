@@ -1,3 +1,3 @@
-// An opcode line of a sheet: its words, numbers and types, read at a place of the text; and what a type's code says.
+// An opcode line of a sheet: its words, numbers and types, read at a place of the text.
 pub mod line;
 pub mod scan;

@@ -142,7 +142,7 @@ impl<'a> Asked<'a> {
             d.operand_types = vec![OperandType::Reg8; UNMET];
         }
         let mark = Sheet::new(vec![Op { code: 0, name: "Mark".to_string(), jump: false, types: vec![9] }]);
-        let doubles = sheet.ops.iter().any(|o| o.types.contains(&crate::listing::DOUBLE));
+        let doubles = sheet.has_doubles();
         Asked { sheet, unmet, mark, doubles }
     }
 
@@ -297,7 +297,7 @@ impl<'a> Asked<'a> {
         let mut changed = tokens.clone();
         let mut place = at + 1;
         for (token, t) in changed.iter_mut().zip(&self.op(name).types) {
-            if let Some(other) = (*t == crate::listing::DOUBLE).then(|| double_token(token)).flatten() {
+            if let Some(other) = (*t == crate::sheets::DOUBLE).then(|| double_token(token)).flatten() {
                 patches.extend(double_bits(token).map(|b| Patch { at: place, bytes: b.to_le_bytes() }));
                 *token = other.to_string();
             }

@@ -109,21 +109,23 @@ fn same(e: &Expected, d: &Run) -> bool {
 
 /// What the run has met.
 struct Seen {
+    name: &'static str,
     by_number: [u64; 21],
     no_operand: u64,
     left_out: u64,
 }
 
 impl Seen {
-    fn new() -> Self {
-        Seen { by_number: [0; 21], no_operand: 0, left_out: 0 }
+    fn new(name: &'static str) -> Self {
+        Seen { name, by_number: [0; 21], no_operand: 0, left_out: 0 }
     }
 
     fn end(&self) {
         let numbers: Vec<String> =
             (1..21).filter(|n| self.by_number[*n] > 0).map(|n| format!("{n}: {}", self.by_number[n])).collect();
         println!(
-            "assemble: {} accepted; refused with {}; without the operand's number: {}; not asked: {}",
+            "{}: {} accepted; refused with {}; without the operand's number: {}; not asked: {}",
+            self.name,
             self.by_number[0],
             numbers.join(", "),
             self.no_operand,
@@ -291,21 +293,49 @@ fn inputs(t: &mut Tally) {
     }
 }
 
-/// The desk's default listing of a body that meets the premises is assembled to the body.
-fn circle(t: &mut Tally, r: &mut Random, sheet: &Sheet, table: &Table) {
-    let most = if r.one_in(50) { 2000 } else { 70 };
-    let body = asm_texts::that_comes_back(r, sheet, table, most);
-    let mut listing = vec![0; 60 * body.len() + 5000];
+/// A body's default listing by the desk, what the desk assembles it to, and whether that is the body again.
+struct Circle {
+    listed: Answer,
+    text: Vec<u8>,
+    answer: Answer,
+    back: bool,
+}
+
+fn circle_of(sheet: &Sheet, table: &Table, body: &[u8]) -> Circle {
+    let mut text = vec![0; 60 * body.len() + 5000];
     let mut entries = vec![0; 5 * body.len() + 1];
-    let listed = desk::list(&sheet.text, &table.bytes, &table.ends, &body, DEFAULT, &mut listing, &mut entries);
-    let text = &listing[..listed.length as usize];
+    let listed = desk::list(&sheet.text, &table.bytes, &table.ends, body, DEFAULT, &mut text, &mut entries);
+    text.truncate(listed.length as usize);
     // A listing's label lines are those of its instructions, so each is taken.
     let labels = text.split(|b| *b == b'\n').filter(|l| l.first() == Some(&b'L') && l.last() == Some(&b':')).count();
-    let d = desk_run(sheet, table, text, body.len() + 2, labels);
-    let back = listed.number == 0 && d.answer == success(body.len()) && d.out == left(Some(&body), body.len() + 2, BYTE);
-    t.count(back && d.entries == vec![[0; 3]; labels], || {
-        let (sheet, text) = (String::from_utf8_lossy(&sheet.text), String::from_utf8_lossy(text));
-        format!("circle of {}\n{sheet}\n  listing: {}\n{text}  desk: {}", hex(&body), show(&listed), show(&d.answer))
+    let d = desk_run(sheet, table, &text, body.len() + 2, labels);
+    let same = d.answer == success(body.len()) && d.out == left(Some(body), body.len() + 2, BYTE);
+    let back = listed.number == 0 && same && d.entries == vec![[0; 3]; labels];
+    Circle { listed, text, answer: d.answer, back }
+}
+
+/// The desk's default listing of a body that meets the premises is assembled to the body.
+fn circle(t: &mut Tally, r: &mut Random, asked: &Asked, table: &Table) {
+    let most = if r.one_in(50) { 2000 } else { 70 };
+    let body = asm_texts::that_comes_back(r, asked.sheet, table, most);
+    t.count(circle_of(asked.sheet, table, &body).back, || {
+        // A smaller body counts where the Rust assembles its listing to it: there the premises are met too.
+        let small = smallest(&rust::pieces(&asked.sheet.format, &body), 1, |some| {
+            let b = some.concat();
+            let c = circle_of(asked.sheet, table, &b);
+            !c.back && matches!(told(asked, table, &c.text), Some(Ok(other)) if other == b)
+        });
+        let small = small.concat();
+        let c = circle_of(asked.sheet, table, &small);
+        format!(
+            "{}strings={}\ncircle of {}\n{}\n  listed: {}\n  assembled: {}",
+            String::from_utf8_lossy(&asked.sheet.text),
+            short(format!("{:?}", table.strings)),
+            short(hex(&small)),
+            short(String::from_utf8_lossy(&c.text).into_owned()),
+            show(&c.listed),
+            show(&c.answer)
+        )
     });
 }
 
@@ -321,13 +351,21 @@ pub fn random_text(r: &mut Random, sheet: &Sheet, table: &Table, f: &mut Bytecod
     }
 }
 
-/// Texts in groups that share a sheet and a string table.
-pub fn run(r: &mut Random, count: u64, sheets: &[Sheet], large: &[Sheet]) -> (u64, u64) {
-    let (mut t, mut seen) = (Tally::new("assemble"), Seen::new());
+/// Texts that are the same in every run.
+pub fn run_fixed() -> (u64, u64) {
+    let name = "assemble, fixed texts";
+    let (mut t, mut seen) = (Tally::new(name), Seen::new(name));
     trials(&mut t, &mut seen);
     every_token(&mut t, &mut seen);
     at_limits(&mut t, &mut seen);
     inputs(&mut t);
+    seen.end();
+    t.end()
+}
+
+/// Texts in groups that share a sheet and a string table.
+pub fn run(name: &'static str, r: &mut Random, count: u64, sheets: &[Sheet], large: &[Sheet]) -> (u64, u64) {
+    let (mut t, mut seen) = (Tally::new(name), Seen::new(name));
     let small: Vec<Asked> = sheets.iter().map(Asked::new).collect();
     let large: Vec<Asked> = large.iter().map(Asked::new).collect();
     let mut f = rust::file_of(&[]);
@@ -339,7 +377,7 @@ pub fn run(r: &mut Random, count: u64, sheets: &[Sheet], large: &[Sheet]) -> (u6
             let spare = random_spare(r);
             one(&mut t, &mut seen, asked, &table, &text, spare);
         }
-        circle(&mut t, r, asked.sheet, &table);
+        circle(&mut t, r, asked, &table);
     }
     seen.end();
     t.end()

@@ -1,5 +1,6 @@
 // decode_function_instructions: a body, and a function of an area.
 
+use crate::areas::Area;
 use crate::desk::{self, Answer};
 use crate::random::Random;
 use crate::rust;
@@ -142,53 +143,47 @@ pub fn run(r: &mut Random, count: u64, sheets: &[Sheet], large: &[Sheet]) -> (u6
     t.end()
 }
 
-/// Functions of an area: triples of offset, size and name id, offsets from a base.
+/// A function of an area, by the Rust and by the desk.
+fn function_runs(sheet: &Sheet, a: &Area, id: usize) -> (Run, Run) {
+    let mut f = rust::file_of(&[]);
+    a.put_in(&mut f);
+    let told = match f.decode_function_instructions(&sheet.format, id as u32) {
+        Ok(list) => Ok(list.iter().flat_map(rust::words_of).collect::<Vec<u64>>()),
+        Err(e) if rust::decode_number(&e) == 20 => Err(rust::refusal(20, id, 0)),
+        // Where in its body the fault is, the Rust is asked about the body alone.
+        Err(_) => rust::decode(&mut f, &sheet.format, &a.body_of(id).expect("a function of the area")),
+    };
+    let room = 20 * 80;
+    let e = match told {
+        Ok(words) => Run { answer: rust::success(words.len() / 20), out: left(Some(&words), room, WORD) },
+        Err(answer) => Run { answer, out: left(None, room, WORD) },
+    };
+    let mut out = vec![WORD; room];
+    let answer = desk::decode_function(&sheet.text, &a.functions, &a.bytes, a.base, id, &mut out);
+    (e, Run { answer, out })
+}
+
 pub fn run_functions(r: &mut Random, count: u64, sheets: &[Sheet]) -> (u64, u64) {
     let mut t = Tally::new("decode_function");
-    let mut f = rust::file_of(&[]);
     for _ in 0..count {
         let sheet = r.pick(sheets);
         let base = *r.pick(&[0u32, 1, 100, 0xffff_fff0]);
-        let mut area = Vec::new();
-        let mut functions: Vec<u32> = Vec::new();
-        for _ in 0..r.below(4) {
-            let body = sheet.body(r, 20);
-            functions.extend([base.wrapping_add(area.len() as u32), body.len() as u32, 0]);
-            area.extend(body);
+        let mut a = Area::random(r, base, |r| (sheet.body(r, 20), 0));
+        if r.one_in(3) {
+            a.damage(r);
         }
-        if r.one_in(3) && !functions.is_empty() {
-            let at = r.below(functions.len());
-            functions[at] = functions[at].wrapping_add(*r.pick(&[1, 3, u32::MAX, 0x8000_0000]));
-        }
-        f.instructions = area.clone();
-        f.instruction_offset = base;
-        f.function_headers = functions
-            .chunks(3)
-            .enumerate()
-            .map(|(i, w)| rust::header(i as u32, w[0], w[1], w[2]))
-            .collect();
-        functions.extend((0..r.below(3)).map(|_| 0));
+        a.leave_rest(r);
         let id = r.below(5);
-        let told = f.decode_function_instructions(&sheet.format, id as u32);
-        let mut out = vec![WORD; 20 * 80];
-        let d = desk::decode_function(&sheet.text, &functions, &area, base, id, &mut out);
-        let ok = match &told {
-            Ok(list) => {
-                let words: Vec<u64> = list.iter().flat_map(rust::words_of).collect();
-                d == rust::success(list.len()) && out == left(Some(&words), out.len(), WORD)
-            }
-            Err(e) => {
-                let n = rust::decode_number(e);
-                d.number == n && (n != 20 || d.place == id as u64) && out == left(None, out.len(), WORD)
-            }
+        let differs = |a: &Area| {
+            let (e, d) = function_runs(sheet, a, id);
+            d.answer != e.answer || d.out != e.out
         };
-        t.count(ok, || {
-            format!(
-                "{}functions={functions:?} area={} base={base} id={id}\n  rust: {told:?}\n  desk: {}",
-                String::from_utf8_lossy(&sheet.text),
-                hex(&area),
-                show(&d)
-            )
+        t.count(!differs(&a), || {
+            let small = a.smallest(sheet, differs);
+            let (e, d) = function_runs(sheet, &small, id);
+            let shown = |r: &Run| format!("{} {:?}", show(&r.answer), &r.out[..40]);
+            let text = String::from_utf8_lossy(&sheet.text);
+            format!("{text}{} id={id}\n  rust: {}\n  desk: {}", small.show(), shown(&e), shown(&d))
         });
     }
     t.end()

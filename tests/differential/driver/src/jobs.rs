@@ -46,7 +46,7 @@ fn list_job(r: &mut Random, sheet: &Sheet) -> Case {
     let strings = listing::strings(r);
     let most = r.below(80);
     let mut body = listing::body(r, sheet, strings.len(), most);
-    if r.one_in(5) && !sheet.ops.iter().any(|o| o.types.contains(&listing::DOUBLE)) {
+    if r.one_in(5) && !sheet.has_doubles() {
         crate::decode::damage(r, &mut body);
     }
     let mut job = job("list", sheet, &strings);

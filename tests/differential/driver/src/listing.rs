@@ -4,13 +4,11 @@ use crate::desk::{self, Answer, Shown};
 use crate::random::Random;
 use crate::rust;
 use crate::sheets::{Sheet, TYPES};
-use crate::tally::{hex, left, show, smallest, Tally, BYTE};
+use crate::tally::{hex, left, lines, show, smallest, Tally, BYTE};
 use crate::texts::table_of;
 use hbc_decomp::disasm::{collect_label_offsets, disassemble_function, DisasmOptions};
 use hbc_decomp::file::BytecodeFile;
 use std::cell::RefCell;
-
-pub const DOUBLE: usize = 11;
 
 pub const DEFAULT: Shown = Shown { offsets: true, labels: true, texts: true };
 
@@ -159,23 +157,28 @@ pub fn run(r: &mut Random, count: u64, sheets: &[Sheet], large: &[Sheet]) -> (u6
         let strings = strings(r);
         let most = if n % 500 == 0 { 4000 } else { 60 };
         let mut body = body(r, sheet, strings.len(), most);
-        if r.one_in(6) && !sheet.ops.iter().any(|o| o.types.contains(&DOUBLE)) {
+        if r.one_in(6) && !sheet.has_doubles() {
             crate::decode::damage(r, &mut body);
         }
         let shown = shown(r);
         let spare = Spare { bytes: *r.pick(&[0, 0, 3, 40, -1]), entries: *r.pick(&[0, 0, 2, -1]) };
         let same = compare(&mut f.borrow_mut(), sheet, &strings, &body, shown, spare).is_none();
         t.count(same, || {
-            let small = smallest(&body, 1, |b| compare(&mut f.borrow_mut(), sheet, &strings, b, shown, spare).is_some());
+            let differs = |b: &[u8]| compare(&mut f.borrow_mut(), sheet, &strings, b, shown, spare).is_some();
+            let mut small = smallest(&rust::pieces(&sheet.format, &body), 1, |some| differs(&some.concat())).concat();
+            // A double that other bytes make is outside demand 2's domain.
+            if !sheet.has_doubles() {
+                small = smallest(&small, 1, differs);
+            }
             let (e, d) = compare(&mut f.borrow_mut(), sheet, &strings, &small, shown, spare).unwrap();
             format!(
                 "{}strings={strings:?}\nbody={} {shown:?} {spare:?}\n  rust: {}\n{}\n  desk: {}\n{}",
                 String::from_utf8_lossy(&sheet.text),
                 hex(&small),
                 show(&e.answer),
-                String::from_utf8_lossy(&e.out),
+                lines(&e.out),
                 show(&d.answer),
-                String::from_utf8_lossy(&d.out)
+                lines(&d.out)
             )
         });
     }

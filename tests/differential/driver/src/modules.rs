@@ -1,53 +1,33 @@
 // disassemble_all, and disassemble_function of one function among several.
 
+use crate::areas::Area;
 use crate::desk::{self, Answer, Shown};
-use crate::listing::{self, around, entries_of, long_line, Run, Spare, DOUBLE, ENTRY};
+use crate::listing::{self, around, entries_of, long_line, Run, Spare, ENTRY};
 use crate::random::Random;
 use crate::rust;
 use crate::sheets::Sheet;
-use crate::tally::{hex, show, Tally, BYTE};
+use crate::tally::{lines, show, Tally, BYTE};
 use crate::texts::table_of;
 use hbc_decomp::disasm::{disassemble_all, disassemble_function};
 use hbc_decomp::file::BytecodeFile;
 
-/// Functions of an area: triples of offset, size and name id, offsets from a base.
-struct Module {
-    functions: Vec<u32>,
-    area: Vec<u8>,
-    base: u32,
-}
-
-fn random(r: &mut Random, sheet: &Sheet, strings: usize) -> Module {
+fn random(r: &mut Random, sheet: &Sheet, strings: usize) -> Area {
     let base = *r.pick(&[0u32, 1, 100, 0xffff_0000]);
-    let mut m = Module { functions: Vec::new(), area: Vec::new(), base };
-    for _ in 0..r.below(4) {
+    let mut a = Area::random(r, base, |r| {
         let body = listing::body(r, sheet, strings, 30);
-        let name = if r.one_in(4) { u32::MAX } else { r.below(strings + 1) as u32 };
-        m.functions.extend([base.wrapping_add(m.area.len() as u32), body.len() as u32, name]);
-        m.area.extend(body);
-    }
+        (body, if r.one_in(4) { u32::MAX } else { r.below(strings + 1) as u32 })
+    });
     // A double that another offset makes of other bytes is outside demand 2's domain.
-    let doubles = sheet.ops.iter().any(|o| o.types.contains(&DOUBLE));
-    if r.one_in(5) && !doubles && !m.functions.is_empty() {
-        let at = r.below(m.functions.len() / 3) * 3 + r.below(2);
-        m.functions[at] = m.functions[at].wrapping_add(*r.pick(&[1, 3, u32::MAX, 0x8000_0000]));
+    if r.one_in(5) && !sheet.has_doubles() {
+        a.damage(r);
     }
-    m.functions.extend((0..r.below(3)).map(|_| 0));
-    m
-}
-
-/// The body of a function, or its 20 or 18.
-fn body_of(m: &Module, id: usize) -> Result<Vec<u8>, Answer> {
-    let none = rust::refusal(20, id, 0);
-    let w = m.functions.chunks_exact(3).nth(id).ok_or(none)?;
-    let start = w[0].checked_sub(m.base).ok_or(none)? as usize;
-    let part = m.area.get(start..start + w[1] as usize).ok_or(none)?;
-    if part.len() > 65536 { Err(rust::refusal(18, 0, 0)) } else { Ok(part.to_vec()) }
+    a.leave_rest(r);
+    a
 }
 
 /// Whether a function's body may be listed behind an indent, and how many label entries it needs.
-fn told(scratch: &mut BytecodeFile, sheet: &Sheet, m: &Module, id: usize, shown: Shown, indent: usize) -> Result<(String, usize), Answer> {
-    let body = body_of(m, id)?;
+fn told(scratch: &mut BytecodeFile, sheet: &Sheet, a: &Area, id: usize, shown: Shown, indent: usize) -> Result<(String, usize), Answer> {
+    let body = a.body_of(id)?;
     rust::decode(scratch, &sheet.format, &body)?;
     rust::set_body(scratch, &body);
     let text = disassemble_function(scratch, &sheet.format, 0, &listing::options(shown)).unwrap();
@@ -58,11 +38,11 @@ fn told(scratch: &mut BytecodeFile, sheet: &Sheet, m: &Module, id: usize, shown:
 }
 
 /// Whether every function of a module may be listed, in document 01's order, and the most label entries that one needs.
-fn told_all(scratch: &mut BytecodeFile, sheet: &Sheet, strings: &[String], m: &Module, shown: Shown) -> Result<usize, Answer> {
+fn told_all(scratch: &mut BytecodeFile, sheet: &Sheet, strings: &[String], a: &Area, shown: Shown) -> Result<usize, Answer> {
     let mut most = 0;
-    for id in 0..m.functions.len() / 3 {
-        body_of(m, id)?;
-        let name = strings.get(m.functions[3 * id + 2] as usize).map_or("", |s| s.as_str());
+    for id in 0..a.functions.len() / 3 {
+        a.body_of(id)?;
+        let name = strings.get(a.functions[3 * id + 2] as usize).map_or("", |s| s.as_str());
         let banner = if name.is_empty() {
             format!("function {id}:")
         } else {
@@ -71,74 +51,82 @@ fn told_all(scratch: &mut BytecodeFile, sheet: &Sheet, strings: &[String], m: &M
         if banner.len() > 4096 {
             return Err(rust::refusal(3, id, 0));
         }
-        most = most.max(told(scratch, sheet, m, id, shown, 2)?.1);
+        most = most.max(told(scratch, sheet, a, id, shown, 2)?.1);
     }
     Ok(most)
 }
 
-fn whole(m: &Module, strings: &[String]) -> BytecodeFile {
-    let mut f = rust::file_of(&[]);
+/// What is asked: one function or the whole module, with which options, and how much is lent beyond what it needs.
+#[derive(Clone, Copy)]
+struct Question {
+    one: Option<usize>,
+    shown: Shown,
+    spare: Spare,
+}
+
+fn expected(sheet: &Sheet, strings: &[String], a: &Area, q: Question) -> Run {
+    let (mut scratch, mut f) = (rust::file_of(&[]), rust::file_of(&[]));
+    rust::set_strings(&mut scratch, strings);
     rust::set_strings(&mut f, strings);
-    f.instructions = m.area.clone();
-    f.instruction_offset = m.base;
-    f.function_headers =
-        m.functions.chunks_exact(3).enumerate().map(|(i, w)| rust::header(i as u32, w[0], w[1], w[2])).collect();
-    f
+    a.put_in(&mut f);
+    let options = listing::options(q.shown);
+    if let Some(id) = q.one {
+        let of = told(&mut scratch, sheet, a, id, q.shown, 0).map(|(text, needed)| {
+            assert_eq!(text, disassemble_function(&f, &sheet.format, id as u32, &options).unwrap());
+            (text, needed)
+        });
+        let needed = of.as_ref().map_or(0, |x| x.1);
+        return around(of.map(|x| x.0), needed, q.spare);
+    }
+    let most = told_all(&mut scratch, sheet, strings, a, q.shown);
+    let needed = *most.as_ref().unwrap_or(&0);
+    around(most.map(|_| disassemble_all(&f, &sheet.format, &options).unwrap()), needed, q.spare)
 }
 
-fn same(e: &Run, d: &Run) -> bool {
-    d.answer == e.answer && d.out == e.out && d.entries == e.entries
+fn desk_run(sheet: &Sheet, strings: &[String], a: &Area, q: Question, e: &Run) -> Run {
+    let (bytes, ends) = table_of(strings);
+    let (mut out, mut entries) = (vec![BYTE; e.out.len()], vec![ENTRY; e.entries.len()]);
+    let answer = match q.one {
+        Some(id) => desk::list_function(&sheet.text, &bytes, &ends, a.lent(), id, q.shown, &mut out, &mut entries),
+        None => desk::list_module(&sheet.text, &bytes, &ends, a.lent(), q.shown, &mut out, &mut entries),
+    };
+    Run { answer, out, entries }
 }
 
-fn tell(sheet: &Sheet, strings: &[String], m: &Module, e: &Run, d: &Run) -> String {
+/// Both answers, where they differ.
+fn compare(sheet: &Sheet, strings: &[String], a: &Area, q: Question) -> Option<(Run, Run)> {
+    let e = expected(sheet, strings, a, q);
+    let d = desk_run(sheet, strings, a, q, &e);
+    (d.answer != e.answer || d.out != e.out || d.entries != e.entries).then_some((e, d))
+}
+
+fn tell(sheet: &Sheet, strings: &[String], a: &Area, q: Question) -> String {
+    let small = a.smallest(sheet, |a| compare(sheet, strings, a, q).is_some());
+    let (e, d) = compare(sheet, strings, &small, q).unwrap();
+    let shown = |r: &Run| format!("{}\n{}", show(&r.answer), lines(&r.out));
+    let of = q.one.map_or("the module".to_string(), |id| format!("function {id}"));
     format!(
-        "{}strings={strings:?}\nfunctions={:?} base={} area={}\n  rust: {}\n{}\n  desk: {}\n{}",
+        "{}strings={strings:?}\n{} of {of} {:?} {:?}\n  rust: {}\n  desk: {}",
         String::from_utf8_lossy(&sheet.text),
-        m.functions,
-        m.base,
-        hex(&m.area),
-        show(&e.answer),
-        String::from_utf8_lossy(&e.out),
-        show(&d.answer),
-        String::from_utf8_lossy(&d.out)
+        small.show(),
+        q.shown,
+        q.spare,
+        shown(&e),
+        shown(&d)
     )
 }
 
 pub fn run(r: &mut Random, count: u64, sheets: &[Sheet]) -> (u64, u64) {
     let mut t = Tally::new("list_function, list_module");
-    let mut scratch = rust::file_of(&[]);
     for n in 0..count {
         let sheet = r.pick(sheets);
         let strings = listing::strings(r);
-        let m = random(r, sheet, strings.len());
+        let a = random(r, sheet, strings.len());
         let shown = listing::shown(r);
         let spare = Spare { bytes: *r.pick(&[0, 0, 3, 40, -1]), entries: *r.pick(&[0, 0, 2, -1]) };
         let id = r.below(4);
-        rust::set_strings(&mut scratch, &strings);
-        let f = whole(&m, &strings);
-        let one = n % 2 == 0;
-        let e = if one {
-            let of = told(&mut scratch, sheet, &m, id, shown, 0).map(|(text, needed)| {
-                assert_eq!(text, disassemble_function(&f, &sheet.format, id as u32, &listing::options(shown)).unwrap());
-                (text, needed)
-            });
-            let needed = of.as_ref().map_or(0, |x| x.1);
-            around(of.map(|x| x.0), needed, spare)
-        } else {
-            let most = told_all(&mut scratch, sheet, &strings, &m, shown);
-            let needed = *most.as_ref().unwrap_or(&0);
-            around(most.map(|_| disassemble_all(&f, &sheet.format, &listing::options(shown)).unwrap()), needed, spare)
-        };
-        let (bytes, ends) = table_of(&strings);
-        let (mut out, mut entries) = (vec![BYTE; e.out.len()], vec![ENTRY; e.entries.len()]);
-        let area = desk::Area { functions: &m.functions, bytes: &m.area, base: m.base };
-        let answer = if one {
-            desk::list_function(&sheet.text, &bytes, &ends, area, id, shown, &mut out, &mut entries)
-        } else {
-            desk::list_module(&sheet.text, &bytes, &ends, area, shown, &mut out, &mut entries)
-        };
-        let d = Run { answer, out, entries };
-        t.count(same(&e, &d), || tell(sheet, &strings, &m, &e, &d));
+        let q = Question { one: (n % 2 == 0).then_some(id), shown, spare };
+        t.count(compare(sheet, &strings, &a, q).is_none(), || tell(sheet, &strings, &a, q));
     }
     t.end()
 }

@@ -165,6 +165,13 @@ pub fn decode(f: &mut BytecodeFile, format: &BytecodeFormat, body: &[u8]) -> Res
     }
 }
 
+/// A body cut between its instructions; between all bytes where it has none.
+pub fn pieces(format: &BytecodeFormat, body: &[u8]) -> Vec<Vec<u8>> {
+    let of_list = |list: Vec<Instruction>| list.iter().map(|i| body[i.offset as usize..][..i.length as usize].to_vec()).collect();
+    let decoded = file_of(body).decode_function_instructions(format, 0);
+    decoded.map_or_else(|_| body.iter().map(|b| vec![*b]).collect(), of_list)
+}
+
 /// The Rust does not tell where it stopped, but it takes exactly the fronts of a body that end between instructions: the
 /// longest of them ends where the fault is. An instruction has at most 65 bytes, so the search steps from start to start.
 fn fault_place(f: &mut BytecodeFile, format: &BytecodeFormat, body: &[u8]) -> usize {

@@ -17,6 +17,7 @@ pub const TYPES: [(&str, usize); 12] = [
     ("Imm32", 4),
     ("Double", 8),
 ];
+pub const DOUBLE: usize = 11;
 
 #[derive(Clone)]
 pub struct Op {
@@ -36,6 +37,10 @@ pub struct Sheet {
 }
 
 impl Sheet {
+    pub fn has_doubles(&self) -> bool {
+        self.ops.iter().any(|o| o.types.contains(&DOUBLE))
+    }
+
     pub fn new(ops: Vec<Op>) -> Self {
         let mut text = format!("version=1\ncount={}\n", ops.len());
         let mut json = "{\"Version\":1,\"Definitions\":[".to_string();

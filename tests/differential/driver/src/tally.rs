@@ -35,26 +35,40 @@ impl Tally {
     }
 }
 
-/// Takes parts of an input away, half of it first and single elements last, as long as it still differs.
+/// Takes parts of an input away, half of it first and single elements last, as long as it still differs, and then begins again
+/// until nothing more can go.
 pub fn smallest<T: Clone>(input: &[T], unit: usize, differs: impl Fn(&[T]) -> bool) -> Vec<T> {
     let mut now = input.to_vec();
-    let mut size = (now.len() / 2 / unit).max(1) * unit;
     loop {
-        let mut at = 0;
-        while at < now.len() {
-            let mut less = now.clone();
-            less.drain(at..(at + size).min(now.len()));
-            if differs(&less) {
-                now = less;
-            } else {
-                at += size;
-            }
+        let before = now.len();
+        let mut size = (before / 2 / unit).max(1) * unit;
+        while size >= unit {
+            now = without_parts(now, size, &differs);
+            size = if size == unit { 0 } else { (size / 2 / unit).max(1) * unit };
         }
-        if size == unit {
+        if now.len() == before {
             return now;
         }
-        size = (size / 2 / unit).max(1) * unit;
     }
+}
+
+fn without_parts<T: Clone>(mut now: Vec<T>, size: usize, differs: impl Fn(&[T]) -> bool) -> Vec<T> {
+    let mut at = 0;
+    while at < now.len() {
+        let mut less = now.clone();
+        less.drain(at..(at + size).min(now.len()));
+        if differs(&less) {
+            now = less;
+        } else {
+            at += size;
+        }
+    }
+    now
+}
+
+/// Lent bytes that hold lines of text, and what is no text as an escape.
+pub fn lines(bytes: &[u8]) -> String {
+    bytes.escape_ascii().to_string().replace("\\n", "\n")
 }
 
 pub fn hex(bytes: &[u8]) -> String {

@@ -1,6 +1,7 @@
 // Feeds the same inputs to the published Rust and to the desk, and compares every answer; times both on request; writes
 // the Rust's answers for the replay.
 
+mod areas;
 mod asked;
 mod asm_texts;
 mod assemble;
@@ -52,13 +53,15 @@ fn compare(seed: u64, count: u64) -> bool {
     let (sheets, large) = (&sheets[..], &large[..]);
     // The longest first, so that the processors end together.
     let parts: Vec<Part> = vec![
-        Box::new(move |r| assemble::run(r, count, sheets, large)),
+        Box::new(move |r| assemble::run("assemble, first half", r, count / 2, sheets, large)),
+        Box::new(move |r| assemble::run("assemble, second half", r, count - count / 2, sheets, large)),
         Box::new(move |r| decode::run(r, count, sheets, large)),
         Box::new(move |r| encode::run(r, count, sheets, large)),
         Box::new(move |r| listing::run(r, count / 4, sheets, large)),
         Box::new(move |r| modules::run(r, count / 10, sheets)),
         Box::new(move |r| texts::run(r, count / 5)),
         Box::new(move |r| numbers::run(r, count / 10)),
+        Box::new(move |_| assemble::run_fixed()),
         Box::new(move |r| decode::run_functions(r, count / 10, sheets)),
     ];
     let (compared, differ) = run_parts(&mut r, parts);
@@ -67,7 +70,8 @@ fn compare(seed: u64, count: u64) -> bool {
     differ == 0
 }
 
-fn main() {
+/// All that the program does.
+pub fn main() {
     let words: Vec<String> = std::env::args().skip(1).collect();
     let number = |i: usize, otherwise: u64| words.get(i).map_or(otherwise, |w| w.parse().expect("a number"));
     match words.first().map_or("compare", |w| w.as_str()) {

@@ -1,6 +1,6 @@
 // Functions of an area, as both sides take them.
 
-use crate::desk::{self, Answer};
+use crate::desk::Answer;
 use crate::random::Random;
 use crate::rust;
 use crate::sheets::Sheet;
@@ -16,9 +16,13 @@ pub struct Area {
 }
 
 impl Area {
+    fn empty(base: u32) -> Self {
+        Area { functions: Vec::new(), bytes: Vec::new(), base }
+    }
+
     /// Up to three functions, one behind the other.
     pub fn random(r: &mut Random, base: u32, mut function: impl FnMut(&mut Random) -> (Vec<u8>, u32)) -> Self {
-        let mut a = Area { functions: Vec::new(), bytes: Vec::new(), base };
+        let mut a = Area::empty(base);
         for _ in 0..r.below(4) {
             let (body, name) = function(r);
             a.push(&body, name);
@@ -61,10 +65,6 @@ impl Area {
             self.functions.chunks_exact(3).enumerate().map(|(i, w)| rust::header(i as u32, w[0], w[1], w[2])).collect();
     }
 
-    pub fn lent(&self) -> desk::Area<'_> {
-        desk::Area { functions: &self.functions, bytes: &self.bytes, base: self.base }
-    }
-
     /// The functions' bodies cut into instructions, with the ids of their names. None where a function is not in the area.
     fn cut(&self, sheet: &Sheet) -> Option<Vec<(Vec<Vec<u8>>, u32)>> {
         let body = |(id, w): (usize, &[u32])| self.body_of(id).ok().map(|b| (rust::pieces(&sheet.format, &b), w[2]));
@@ -72,7 +72,7 @@ impl Area {
     }
 
     fn of_cut(base: u32, cut: &[(Vec<Vec<u8>>, u32)]) -> Self {
-        let mut a = Area { functions: Vec::new(), bytes: Vec::new(), base };
+        let mut a = Area::empty(base);
         cut.iter().for_each(|(pieces, name)| a.push(&pieces.concat(), *name));
         a
     }

@@ -15,14 +15,16 @@ pub struct Case {
     pub spare: i64,
 }
 
+/// How many words more than the records are lent, around a record's 20.
+const SPARES: [i64; 9] = [0, 0, 1, 19, 20, 45, -1, -20, -21];
+
 pub struct Run {
     pub answer: Answer,
     pub out: Vec<u64>,
 }
 
-/// The Rust's answer with document 01's limits and lent space around it.
-pub fn expected(f: &mut BytecodeFile, sheet: &Sheet, body: &[u8], spare: i64) -> Run {
-    let told = if body.len() > 65536 { Err(rust::refusal(18, 0, 0)) } else { rust::decode(f, &sheet.format, body) };
+/// The Rust's answer, where so many words more are lent than it has; 40 where it is a refusal.
+fn around(told: Result<Vec<u64>, Answer>, spare: i64) -> Run {
     let room = (told.as_ref().map_or(40, |w| w.len() as i64) + spare).max(0) as usize;
     match told {
         Ok(words) if words.len() <= room => {
@@ -31,6 +33,12 @@ pub fn expected(f: &mut BytecodeFile, sheet: &Sheet, body: &[u8], spare: i64) ->
         Ok(_) => Run { answer: rust::refusal(19, 0, 0), out: left(None, room, WORD) },
         Err(answer) => Run { answer, out: left(None, room, WORD) },
     }
+}
+
+/// The Rust's answer with document 01's limits and lent space around it.
+pub fn expected(f: &mut BytecodeFile, sheet: &Sheet, body: &[u8], spare: i64) -> Run {
+    let told = if body.len() > 65536 { Err(rust::refusal(18, 0, 0)) } else { rust::decode(f, &sheet.format, body) };
+    around(told, spare)
 }
 
 fn desk_run(sheet: &Sheet, body: &[u8], room: usize) -> Run {
@@ -88,7 +96,7 @@ pub fn random_case(r: &mut Random, sheet: &Sheet) -> Case {
     if r.one_in(3) {
         damage(r, &mut body);
     }
-    let spare = *r.pick(&[0, 0, 1, 19, 20, 45, -1, -20, -21]);
+    let spare = *r.pick(&SPARES);
     Case { body, spare }
 }
 
@@ -144,22 +152,18 @@ pub fn run(r: &mut Random, count: u64, sheets: &[Sheet], large: &[Sheet]) -> (u6
 }
 
 /// A function of an area, by the Rust and by the desk.
-fn function_runs(sheet: &Sheet, a: &Area, id: usize) -> (Run, Run) {
+fn function_runs(sheet: &Sheet, a: &Area, id: usize, spare: i64) -> (Run, Run) {
     let mut f = rust::file_of(&[]);
     a.put_in(&mut f);
     let told = match f.decode_function_instructions(&sheet.format, id as u32) {
-        Ok(list) => Ok(list.iter().flat_map(rust::words_of).collect::<Vec<u64>>()),
+        Ok(list) => Ok(list.iter().flat_map(rust::words_of).collect()),
         Err(e) if rust::decode_number(&e) == 20 => Err(rust::refusal(20, id, 0)),
         // Where in its body the fault is, the Rust is asked about the body alone.
         Err(_) => rust::decode(&mut f, &sheet.format, &a.body_of(id).expect("a function of the area")),
     };
-    let room = 20 * 80;
-    let e = match told {
-        Ok(words) => Run { answer: rust::success(words.len() / 20), out: left(Some(&words), room, WORD) },
-        Err(answer) => Run { answer, out: left(None, room, WORD) },
-    };
-    let mut out = vec![WORD; room];
-    let answer = desk::decode_function(&sheet.text, &a.functions, &a.bytes, a.base, id, &mut out);
+    let e = around(told, spare);
+    let mut out = vec![WORD; e.out.len()];
+    let answer = desk::decode_function(&sheet.text, a, id, &mut out);
     (e, Run { answer, out })
 }
 
@@ -173,15 +177,15 @@ pub fn run_functions(r: &mut Random, count: u64, sheets: &[Sheet]) -> (u64, u64)
             a.damage(r);
         }
         a.leave_rest(r);
-        let id = r.below(5);
+        let (id, spare) = (r.below(5), *r.pick(&SPARES));
         let differs = |a: &Area| {
-            let (e, d) = function_runs(sheet, a, id);
+            let (e, d) = function_runs(sheet, a, id, spare);
             d.answer != e.answer || d.out != e.out
         };
         t.count(!differs(&a), || {
             let small = a.smallest(sheet, differs);
-            let (e, d) = function_runs(sheet, &small, id);
-            let shown = |r: &Run| format!("{} {:?}", show(&r.answer), &r.out[..40]);
+            let (e, d) = function_runs(sheet, &small, id, spare);
+            let shown = |r: &Run| format!("{} {:?}", show(&r.answer), r.out);
             let text = String::from_utf8_lossy(&sheet.text);
             format!("{text}{} id={id}\n  rust: {}\n  desk: {}", small.show(), shown(&e), shown(&d))
         });

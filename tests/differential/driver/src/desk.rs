@@ -1,5 +1,7 @@
 // The desk's C functions, from slices: Rust's own rules keep the caller's duties.
 
+use crate::areas::Area;
+
 /// Number, place and operand of a refusal, or three zeros and the length.
 #[repr(C)]
 #[derive(Debug, Clone, Copy, PartialEq, Eq)]
@@ -146,16 +148,16 @@ pub fn decode(text: &[u8], body: &[u8], out: &mut [u64]) -> Answer {
     unsafe { c::desk_decode(text.as_ptr(), text.len(), body.as_ptr(), body.len(), out.as_mut_ptr(), out.len()) }
 }
 
-pub fn decode_function(text: &[u8], functions: &[u32], area: &[u8], base: u32, id: usize, out: &mut [u64]) -> Answer {
+pub fn decode_function(text: &[u8], area: &Area, id: usize, out: &mut [u64]) -> Answer {
     unsafe {
         c::desk_decode_function(
             text.as_ptr(),
             text.len(),
-            functions.as_ptr(),
-            functions.len(),
-            area.as_ptr(),
-            area.len(),
-            base,
+            area.functions.as_ptr(),
+            area.functions.len(),
+            area.bytes.as_ptr(),
+            area.bytes.len(),
+            area.base,
             id,
             out.as_mut_ptr(),
             out.len(),
@@ -189,15 +191,7 @@ pub fn list(text: &[u8], bytes: &[u8], ends: &[u32], body: &[u8], shown: Shown, 
     }
 }
 
-/// The functions of an area.
-#[derive(Clone, Copy)]
-pub struct Area<'a> {
-    pub functions: &'a [u32],
-    pub bytes: &'a [u8],
-    pub base: u32,
-}
-
-pub fn list_function(text: &[u8], bytes: &[u8], ends: &[u32], area: Area, id: usize, shown: Shown, out: &mut [u8], entries: &mut [u32]) -> Answer {
+pub fn list_function(text: &[u8], bytes: &[u8], ends: &[u32], area: &Area, id: usize, shown: Shown, out: &mut [u8], entries: &mut [u32]) -> Answer {
     unsafe {
         c::desk_list_function(
             text.as_ptr(),
@@ -223,7 +217,7 @@ pub fn list_function(text: &[u8], bytes: &[u8], ends: &[u32], area: Area, id: us
     }
 }
 
-pub fn list_module(text: &[u8], bytes: &[u8], ends: &[u32], area: Area, shown: Shown, out: &mut [u8], entries: &mut [u32]) -> Answer {
+pub fn list_module(text: &[u8], bytes: &[u8], ends: &[u32], area: &Area, shown: Shown, out: &mut [u8], entries: &mut [u32]) -> Answer {
     unsafe {
         c::desk_list_module(
             text.as_ptr(),

@@ -87,8 +87,8 @@ fn desk_run(sheet: &Sheet, strings: &[String], a: &Area, q: Question, e: &Run) -
     let (bytes, ends) = table_of(strings);
     let (mut out, mut entries) = (vec![BYTE; e.out.len()], vec![ENTRY; e.entries.len()]);
     let answer = match q.one {
-        Some(id) => desk::list_function(&sheet.text, &bytes, &ends, a.lent(), id, q.shown, &mut out, &mut entries),
-        None => desk::list_module(&sheet.text, &bytes, &ends, a.lent(), q.shown, &mut out, &mut entries),
+        Some(id) => desk::list_function(&sheet.text, &bytes, &ends, a, id, q.shown, &mut out, &mut entries),
+        None => desk::list_module(&sheet.text, &bytes, &ends, a, q.shown, &mut out, &mut entries),
     };
     Run { answer, out, entries }
 }

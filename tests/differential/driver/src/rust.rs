@@ -165,7 +165,7 @@ pub fn decode(f: &mut BytecodeFile, format: &BytecodeFormat, body: &[u8]) -> Res
     }
 }
 
-/// A body cut between its instructions; between all bytes where it has none.
+/// A body cut between its instructions, or between all bytes where the Rust does not decode it.
 pub fn pieces(format: &BytecodeFormat, body: &[u8]) -> Vec<Vec<u8>> {
     let of_list = |list: Vec<Instruction>| list.iter().map(|i| body[i.offset as usize..][..i.length as usize].to_vec()).collect();
     let decoded = file_of(body).decode_function_instructions(format, 0);

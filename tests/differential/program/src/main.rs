@@ -1,4 +1,5 @@
-// The driver linked with the desk's archives: apart from it, so that it can be compiled while these are still being built.
+// The driver, linked with the desk's archives. A package of its own, so that the driver is compiled while the archives are
+// still being built.
 fn main() {
     driver::main();
 }

@@ -1,1 +1,9 @@
+pub mod ValueLaws
+pub mod TokenPlaces
+pub mod OperandsLoop
+pub mod BodyLoop
+pub mod InstructionLaws
+pub mod LineTurns
+pub mod BodyTurns
+pub mod PassLaws
 pub mod OperationLaws

@@ -4,22 +4,21 @@ use mathlib.Core.List.{List}
 use Prim.Native.Nat.{ℕ, _<_, _≤_}
 use lib.ListN.{length}
 use borrow.Author.Tests.{lt-ltb, le-ltb}
-use Rattle.spec_body.specs.Operation.{Outcome}
-use Rattle.spec_body.specs.Operation.Outcome.{refusedWith}
-use Rattle.spec_listing.specs.Edition.{Edition}
-use Rattle.spec_listing.specs.Operation.{underInputs}
+use Rattle.spec_answers.specs.Outcome.{Outcome}
+use Rattle.spec_answers.specs.Outcome.Outcome.{refusedWith}
+use Rattle.spec_inputs.specs.Context.{Context, contextFrom}
+use Rattle.spec_inputs.specs.Inputs.{underInputs}
 use Rattle.spec_hasm.specs.Operation.{assemble}
-use Rattle.assemble_passes.specs.Passes.{textOutcome}
-use Rattle.hasm_operands.specs.Editions.{edition}
+use Rattle.assemble.specs.Passes.{textOutcome}
 use Rattle.spec_answers.specs.Report.{Report, zeros}
-use Rattle.endings.specs.Ends.{Ended}
-use Rattle.inputs.specs.Read.{inputsReport, Given}
-use Rattle.inputs.specs.declared.Inputs.{Inputs}
-use Rattle.inputs.specs.declared.Inputs.the-variants.{Ready}
-use Rattle.inputs.proofs.EndedLaws.{read-on, refused-on}
+use Rattle.operation.specs.Ends.{Ended}
+use Rattle.operation.specs.Read.{inputsReport, Given}
+use Rattle.operation.specs.declared.inputs.Inputs.{Inputs}
+use Rattle.operation.specs.declared.inputs.Inputs.the-variants.{Ready}
+use Rattle.operation.proofs.EndedLaws.{read-on, refused-on}
 
--- a text under an edition, whose largest opcode does not count
-abbrev pub textUnder : List ℕ → ℕ → Edition → ℕ → Outcome
+-- a text under an contextFrom, whose largest opcode does not count
+abbrev pub textUnder : List ℕ → ℕ → Context → ℕ → Outcome
 textUnder text lent e last = textOutcome e text lent
 
 module _ (sheet bytes ends text : List ℕ) (lent : ℕ) where
@@ -33,7 +32,7 @@ module _ (sheet bytes ends text : List ℕ) (lent : ℕ) where
 
 -- a text under inputs that were read
 pub read-text : (sheet bytes ends text : List ℕ) {types ops : List (List ℕ)} {last : ℕ} {before after : List ℕ} (lent : ℕ) {r : Report} → length text ≤ 1048576 → Given sheet bytes ends types ops (Ready last)
-    → Ended (textOutcome (edition sheet types ops bytes ends) text lent) before after r
+    → Ended (textOutcome (contextFrom sheet types ops bytes ends) text lent) before after r
     → Ended (assemble sheet bytes ends text lent) before after r
 read-text sheet bytes ends text lent h g e = rw (assemble-small sheet bytes ends text lent h) (read-on (textUnder text lent) g e)
 

@@ -10,9 +10,11 @@ use Rattle.spec_sheet.specs.Sheet.SheetRead.{malformed}
 use Rattle.sheet.specs.Sheets.{typesIn}
 use Rattle.sheet.proofs.UnderSheet.{ReadAs}
 use Rattle.spec_body.specs.Decode.{decodeBody}
-use Rattle.spec_body.specs.Function.{inArea, sizeOf, bodyOf}
-use Rattle.spec_body.specs.Operation.{Outcome, decodeOutcome, underSheet, functionOutcome, decode}
-use Rattle.spec_body.specs.Operation.Outcome.{refusedWith}
+use Rattle.spec_body.specs.Function.{inArea, functionSize, functionBody}
+use Rattle.spec_body.specs.Operation.{decodeOutcome, functionOutcome, decode}
+use Rattle.spec_answers.specs.Outcome.{Outcome}
+use Rattle.spec_inputs.specs.Inputs.{underSheet}
+use Rattle.spec_answers.specs.Outcome.Outcome.{refusedWith}
 
 -- under a sheet that was read, and under none
 pub under-read : (x : SheetRead) (m : ℕ) (r : ReadAs x m) (then : List (List ℕ) → ℕ → Outcome) → underSheet x then ≡ then (typesIn x) (m - 1)
@@ -37,10 +39,10 @@ module _ (functions area : List ℕ) (base id : ℕ) (types : List (List ℕ)) (
   unfolding functionOutcome
   function-none e = rw e
 
-  pub function-large : inArea functions area base id ≡ true → 65536 < sizeOf functions id → functionOutcome types last functions area base id ≡ refusedWith 18 0 0
+  pub function-large : inArea functions area base id ≡ true → 65536 < functionSize functions id → functionOutcome types last functions area base id ≡ refusedWith 18 0 0
   unfolding functionOutcome
-  function-large e h = rw (e, lt-ltb 65536 (sizeOf functions id) h)
+  function-large e h = rw (e, lt-ltb 65536 (functionSize functions id) h)
 
-  pub function-body : inArea functions area base id ≡ true → sizeOf functions id ≤ 65536 → functionOutcome types last functions area base id ≡ decodeOutcome (decodeBody types last (bodyOf functions area base id))
+  pub function-body : inArea functions area base id ≡ true → functionSize functions id ≤ 65536 → functionOutcome types last functions area base id ≡ decodeOutcome (decodeBody types last (functionBody functions area base id))
   unfolding functionOutcome
-  function-body e h = rw (e, le-ltb 65536 (sizeOf functions id) h)
+  function-body e h = rw (e, le-ltb 65536 (functionSize functions id) h)

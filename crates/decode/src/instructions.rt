@@ -3,13 +3,14 @@ ghost use mathlib.Core.Path.{_≡_};
 ghost use lib.ListN.{length};
 ghost use Rattle.spec_body.specs.Decode.{decodeBody};
 ghost use Rattle.spec_body.specs.Operation as operation;
-ghost use Rattle.spec_body.specs.Operation.{report, exitOf, decodeOutcome};
-ghost use Rattle.decode_answer.specs.Answers.{decodeReport};
-use area::in_area;
-use area::wide;
-use decode_answer::DecodeAnswer;
-use decode_body::Body;
-use decode_body::decode_body;
+ghost use Rattle.spec_body.specs.Operation.{decodeOutcome};
+ghost use Rattle.spec_answers.specs.Outcome.{report, exitOf};
+ghost use Rattle.decode.specs.Answers.{decodeReport};
+use crate::answer::DecodeAnswer;
+use crate::body::Body;
+use crate::body::decode_body;
+use operation::area::in_area;
+use operation::area::wide;
 use sheet::opcode::Sheet;
 
 // Decodes a body under a sheet's table of type codes.
@@ -22,38 +23,38 @@ fn decode_under(types: &[[u8; 8]; 256], last: usize, s: &[u8], out: &mut [u64]) 
     match b {
         Body::Records(n) => {
             if room < n {
-                clearing::clear_words(out);
+                slices::clearing::clear_words(out);
                 return DecodeAnswer::Short;
             }
             DecodeAnswer::Done(n)
         }
         Body::Beyond(at) => {
-            clearing::clear_words(out);
+            slices::clearing::clear_words(out);
             DecodeAnswer::Beyond(at)
         }
         Body::Cut(at) => {
-            clearing::clear_words(out);
+            slices::clearing::clear_words(out);
             DecodeAnswer::Cut(at)
         }
     }
 }
 
 // Decodes a body under a sheet given as text.
-pub fn decode(text: &[u8], body: &[u8], out: &mut [u64]) -> DecodeAnswer
-    ensures { λ r. ⌜ decodeReport r ≡ report (operation.decode (now (text .entry)) (now (body .entry))) (length (now (out .entry))) ⌝ }
-    ensures { λ _. ⌜ now (out .exit) ≡ exitOf (operation.decode (now (text .entry)) (now (body .entry))) (now (out .entry)) ⌝ }
+pub fn decode(sheet: &[u8], body: &[u8], out: &mut [u64]) -> DecodeAnswer
+    ensures { λ r. ⌜ decodeReport r ≡ report (operation.decode (now (sheet .entry)) (now (body .entry))) (length (now (out .entry))) ⌝ }
+    ensures { λ _. ⌜ now (out .exit) ≡ exitOf (operation.decode (now (sheet .entry)) (now (body .entry))) (now (out .entry)) ⌝ }
 {
-    if 65536 < body.len() {
-        clearing::clear_words(out);
+    if limits::BODY_LIMIT < body.len() {
+        slices::clearing::clear_words(out);
         return DecodeAnswer::TooLarge;
     }
     let mut types = [[0u8; 8]; 256];
     let mut ops = [[0usize; 4]; 256];
-    let sheet = sheet::opcode::read_sheet(text, &mut types, &mut ops);
-    match sheet {
+    let read = sheet::opcode::read_sheet(sheet, &mut types, &mut ops);
+    match read {
         Sheet::Read(_, _, above, _) => decode_under(&types, above - 1, body, out),
         Sheet::Malformed(line) => {
-            clearing::clear_words(out);
+            slices::clearing::clear_words(out);
             DecodeAnswer::Malformed(line)
         }
     }
@@ -61,20 +62,20 @@ pub fn decode(text: &[u8], body: &[u8], out: &mut [u64]) -> DecodeAnswer
 
 // Decodes one function of an area: `functions` are triples of offset, size and name id, and offsets count from `base`.
 pub fn decode_function(
-    text: &[u8],
+    sheet: &[u8],
     functions: &[u32],
     area: &[u8],
     base: u32,
     id: usize,
     out: &mut [u64],
 ) -> DecodeAnswer
-    ensures { λ r. ⌜ decodeReport r ≡ report (operation.decodeFunction (now (text .entry)) (now (functions .entry)) (now (area .entry)) base id) (length (now (out .entry))) ⌝ }
-    ensures { λ _. ⌜ now (out .exit) ≡ exitOf (operation.decodeFunction (now (text .entry)) (now (functions .entry)) (now (area .entry)) base id) (now (out .entry)) ⌝ }
+    ensures { λ r. ⌜ decodeReport r ≡ report (operation.decodeFunction (now (sheet .entry)) (now (functions .entry)) (now (area .entry)) base id) (length (now (out .entry))) ⌝ }
+    ensures { λ _. ⌜ now (out .exit) ≡ exitOf (operation.decodeFunction (now (sheet .entry)) (now (functions .entry)) (now (area .entry)) base id) (now (out .entry)) ⌝ }
 {
     let mut types = [[0u8; 8]; 256];
     let mut ops = [[0usize; 4]; 256];
-    let sheet = sheet::opcode::read_sheet(text, &mut types, &mut ops);
-    match sheet {
+    let read = sheet::opcode::read_sheet(sheet, &mut types, &mut ops);
+    match read {
         Sheet::Read(_, _, above, _) => function_under(
             &types,
             above - 1,
@@ -85,7 +86,7 @@ pub fn decode_function(
             out,
         ),
         Sheet::Malformed(line) => {
-            clearing::clear_words(out);
+            slices::clearing::clear_words(out);
             DecodeAnswer::Malformed(line)
         }
     }
@@ -107,13 +108,13 @@ fn function_under(
     if in_area(functions, area, base, id) {
         let start = wide(functions[3 * id]) - wide(base);
         let size = wide(functions[3 * id + 1]);
-        if 65536 < size {
-            clearing::clear_words(out);
+        if limits::BODY_LIMIT < size {
+            slices::clearing::clear_words(out);
             return DecodeAnswer::TooLarge;
         }
         let body = slices::part::part_of(area, start, size);
         return decode_under(types, last, body, out);
     }
-    clearing::clear_words(out);
+    slices::clearing::clear_words(out);
     DecodeAnswer::NoFunction(id)
 }

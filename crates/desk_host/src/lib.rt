@@ -4,55 +4,55 @@ ghost use mathlib.Core.Path.{_≡_};
 ghost use mathlib.Core.List.{[], _∷_};
 ghost use lib.ListN.{length, replicate};
 ghost use Rattle.spec_body.specs.Operation as operation;
-ghost use Rattle.spec_body.specs.Operation.{report, exitOf};
-ghost use Rattle.endings.specs.Numbers.{numbersOf};
+ghost use Rattle.spec_answers.specs.Outcome.{report, exitOf};
+ghost use Rattle.operation.specs.Numbers.{numbersOf};
 ghost use Rattle.spec_listing.specs.Operation as listing;
-ghost use Rattle.body_lines.specs.Parts.{optionsOf};
-ghost use Rattle.disasm_function.specs.Functions.{areaOf};
+ghost use Rattle.listing.specs.Parts.{optionsOf};
+ghost use Rattle.listing.specs.Functions.{areaOf};
 ghost use Rattle.spec_hasm.specs.Operation as hasm;
-use decode_answer::decode_numbers;
-use encode_answer::encode_numbers;
-use endings::Numbers;
-use label_list::slot::Slot;
+use decode::answer::decode_numbers;
+use encode::answer::encode_numbers;
+use hasm_labels::label_entry::Slot;
+use operation::ending::Numbers;
 
 // Decodes a body under the sheet `text` into records of 20 words.
 #[no_mangle]
-pub extern "C" fn desk_decode(text: &[u8], body: &[u8], out: &mut [u64]) -> Numbers
-    ensures { λ r. ⌜ r ≡ numbersOf (report (operation.decode (now (text .entry)) (now (body .entry))) (length (now (out .entry)))) ⌝ }
-    ensures { λ _. ⌜ now (out .exit) ≡ exitOf (operation.decode (now (text .entry)) (now (body .entry))) (now (out .entry)) ⌝ }
+pub extern "C" fn desk_decode(sheet: &[u8], body: &[u8], out: &mut [u64]) -> Numbers
+    ensures { λ r. ⌜ r ≡ numbersOf (report (operation.decode (now (sheet .entry)) (now (body .entry))) (length (now (out .entry)))) ⌝ }
+    ensures { λ _. ⌜ now (out .exit) ≡ exitOf (operation.decode (now (sheet .entry)) (now (body .entry))) (now (out .entry)) ⌝ }
 {
-    decode_numbers(decode::instructions::decode(text, body, out))
+    decode_numbers(decode::instructions::decode(sheet, body, out))
 }
 
 // Decodes one function of an area.
 #[no_mangle]
 pub extern "C" fn desk_decode_function(
-    text: &[u8],
+    sheet: &[u8],
     functions: &[u32],
     area: &[u8],
     base: u32,
     id: usize,
     out: &mut [u64],
 ) -> Numbers
-    ensures { λ r. ⌜ r ≡ numbersOf (report (operation.decodeFunction (now (text .entry)) (now (functions .entry)) (now (area .entry)) base id) (length (now (out .entry)))) ⌝ }
-    ensures { λ _. ⌜ now (out .exit) ≡ exitOf (operation.decodeFunction (now (text .entry)) (now (functions .entry)) (now (area .entry)) base id) (now (out .entry)) ⌝ }
+    ensures { λ r. ⌜ r ≡ numbersOf (report (operation.decodeFunction (now (sheet .entry)) (now (functions .entry)) (now (area .entry)) base id) (length (now (out .entry)))) ⌝ }
+    ensures { λ _. ⌜ now (out .exit) ≡ exitOf (operation.decodeFunction (now (sheet .entry)) (now (functions .entry)) (now (area .entry)) base id) (now (out .entry)) ⌝ }
 {
-    decode_numbers(decode::instructions::decode_function(text, functions, area, base, id, out))
+    decode_numbers(decode::instructions::decode_function(sheet, functions, area, base, id, out))
 }
 
 // Encodes records of 20 words under the sheet `text` into a body.
 #[no_mangle]
-pub extern "C" fn desk_encode(text: &[u8], words: &[u64], out: &mut [u8]) -> Numbers
-    ensures { λ r. ⌜ r ≡ numbersOf (report (operation.encode (now (text .entry)) (now (words .entry))) (length (now (out .entry)))) ⌝ }
-    ensures { λ _. ⌜ now (out .exit) ≡ exitOf (operation.encode (now (text .entry)) (now (words .entry))) (now (out .entry)) ⌝ }
+pub extern "C" fn desk_encode(sheet: &[u8], words: &[u64], out: &mut [u8]) -> Numbers
+    ensures { λ r. ⌜ r ≡ numbersOf (report (operation.encode (now (sheet .entry)) (now (words .entry))) (length (now (out .entry)))) ⌝ }
+    ensures { λ _. ⌜ now (out .exit) ≡ exitOf (operation.encode (now (sheet .entry)) (now (words .entry))) (now (out .entry)) ⌝ }
 {
-    encode_numbers(encode::encode::encode(text, words, out))
+    encode_numbers(encode::encode::encode(sheet, words, out))
 }
 
 // Lists a body under the sheet `text` and a string table, with offsets, labels and texts shown or not.
 #[no_mangle]
 pub extern "C" fn desk_list(
-    text: &[u8],
+    sheet: &[u8],
     bytes: &[u8],
     ends: &[u32],
     body: &[u8],
@@ -62,15 +62,15 @@ pub extern "C" fn desk_list(
     out: &mut [u8],
     entries: &mut [u32],
 ) -> Numbers
-    ensures { λ r. ⌜ r ≡ numbersOf (report (listing.list (optionsOf offsets labels texts) (now (text .entry)) (now (bytes .entry)) (now (ends .entry)) (now (body .entry)) (length (now (entries .entry)))) (length (now (out .entry)))) ⌝ }
-    ensures { λ _. ⌜ now (out .exit) ≡ exitOf (listing.list (optionsOf offsets labels texts) (now (text .entry)) (now (bytes .entry)) (now (ends .entry)) (now (body .entry)) (length (now (entries .entry)))) (now (out .entry)) ⌝ }
+    ensures { λ r. ⌜ r ≡ numbersOf (report (listing.list (optionsOf offsets labels texts) (now (sheet .entry)) (now (bytes .entry)) (now (ends .entry)) (now (body .entry)) (length (now (entries .entry)))) (length (now (out .entry)))) ⌝ }
+    ensures { λ _. ⌜ now (out .exit) ≡ exitOf (listing.list (optionsOf offsets labels texts) (now (sheet .entry)) (now (bytes .entry)) (now (ends .entry)) (now (body .entry)) (length (now (entries .entry)))) (now (out .entry)) ⌝ }
     ensures { λ _. ⌜ now (entries .exit) ≡ replicate (length (now (entries .entry))) 0 ⌝ }
 {
-    list_answer::list_numbers(disasm::operation::list(
+    listing::answer::list_numbers(listing::list::list(
         offsets,
         labels,
         texts,
-        text,
+        sheet,
         bytes,
         ends,
         body,
@@ -82,7 +82,7 @@ pub extern "C" fn desk_list(
 // Lists one function of an area; offsets count from `base`.
 #[no_mangle]
 pub extern "C" fn desk_list_function(
-    text: &[u8],
+    sheet: &[u8],
     bytes: &[u8],
     ends: &[u32],
     functions: &[u32],
@@ -95,15 +95,15 @@ pub extern "C" fn desk_list_function(
     out: &mut [u8],
     entries: &mut [u32],
 ) -> Numbers
-    ensures { λ r. ⌜ r ≡ numbersOf (report (listing.listFunction (optionsOf offsets labels texts) (now (text .entry)) (now (bytes .entry)) (now (ends .entry)) (areaOf (now (functions .entry)) (now (area .entry)) base) id (length (now (entries .entry)))) (length (now (out .entry)))) ⌝ }
-    ensures { λ _. ⌜ now (out .exit) ≡ exitOf (listing.listFunction (optionsOf offsets labels texts) (now (text .entry)) (now (bytes .entry)) (now (ends .entry)) (areaOf (now (functions .entry)) (now (area .entry)) base) id (length (now (entries .entry)))) (now (out .entry)) ⌝ }
+    ensures { λ r. ⌜ r ≡ numbersOf (report (listing.listFunction (optionsOf offsets labels texts) (now (sheet .entry)) (now (bytes .entry)) (now (ends .entry)) (areaOf (now (functions .entry)) (now (area .entry)) base) id (length (now (entries .entry)))) (length (now (out .entry)))) ⌝ }
+    ensures { λ _. ⌜ now (out .exit) ≡ exitOf (listing.listFunction (optionsOf offsets labels texts) (now (sheet .entry)) (now (bytes .entry)) (now (ends .entry)) (areaOf (now (functions .entry)) (now (area .entry)) base) id (length (now (entries .entry)))) (now (out .entry)) ⌝ }
     ensures { λ _. ⌜ now (entries .exit) ≡ replicate (length (now (entries .entry))) 0 ⌝ }
 {
-    list_answer::list_numbers(disasm_function::list_function(
+    listing::answer::list_numbers(listing::list_function::list_function(
         offsets,
         labels,
         texts,
-        text,
+        sheet,
         bytes,
         ends,
         functions,
@@ -118,7 +118,7 @@ pub extern "C" fn desk_list_function(
 // Lists all functions of an area, each under its banner.
 #[no_mangle]
 pub extern "C" fn desk_list_module(
-    text: &[u8],
+    sheet: &[u8],
     bytes: &[u8],
     ends: &[u32],
     functions: &[u32],
@@ -130,15 +130,15 @@ pub extern "C" fn desk_list_module(
     out: &mut [u8],
     entries: &mut [u32],
 ) -> Numbers
-    ensures { λ r. ⌜ r ≡ numbersOf (report (listing.listModule (optionsOf offsets labels texts) (now (text .entry)) (now (bytes .entry)) (now (ends .entry)) (areaOf (now (functions .entry)) (now (area .entry)) base) (length (now (entries .entry)))) (length (now (out .entry)))) ⌝ }
-    ensures { λ _. ⌜ now (out .exit) ≡ exitOf (listing.listModule (optionsOf offsets labels texts) (now (text .entry)) (now (bytes .entry)) (now (ends .entry)) (areaOf (now (functions .entry)) (now (area .entry)) base) (length (now (entries .entry)))) (now (out .entry)) ⌝ }
+    ensures { λ r. ⌜ r ≡ numbersOf (report (listing.listModule (optionsOf offsets labels texts) (now (sheet .entry)) (now (bytes .entry)) (now (ends .entry)) (areaOf (now (functions .entry)) (now (area .entry)) base) (length (now (entries .entry)))) (length (now (out .entry)))) ⌝ }
+    ensures { λ _. ⌜ now (out .exit) ≡ exitOf (listing.listModule (optionsOf offsets labels texts) (now (sheet .entry)) (now (bytes .entry)) (now (ends .entry)) (areaOf (now (functions .entry)) (now (area .entry)) base) (length (now (entries .entry)))) (now (out .entry)) ⌝ }
     ensures { λ _. ⌜ now (entries .exit) ≡ replicate (length (now (entries .entry))) 0 ⌝ }
 {
-    list_answer::list_numbers(modules::module::list_module(
+    listing::answer::list_numbers(list_module::module::list_module(
         offsets,
         labels,
         texts,
-        text,
+        sheet,
         bytes,
         ends,
         functions,
@@ -163,7 +163,7 @@ pub extern "C" fn desk_assemble(
     ensures { λ _. ⌜ now (out .exit) ≡ exitOf (hasm.assemble (now (sheet .entry)) (now (bytes .entry)) (now (ends .entry)) (now (text .entry)) (length (now (labels .entry)))) (now (out .entry)) ⌝ }
     ensures { λ _. ⌜ now (labels .exit) ≡ replicate (length (now (labels .entry))) (0 ∷ 0 ∷ 0 ∷ []) ⌝ }
 {
-    assemble_answer::assemble_numbers(assemble::operation::assemble(
+    assemble::answer::assemble_numbers(assemble::assemble::assemble(
         sheet,
         bytes,
         ends,

@@ -1,7 +1,7 @@
 -- What a C function returns where a number may be missing. Assumes nothing.
 use Prim.Native.Nat.{ℕ}
-use Rattle.parse_numbers.specs.declared.Number.{Number}
-use Rattle.parse_numbers.specs.declared.Number.the-variants.{Is, Bad}
+use Rattle.numbers.specs.declared.parse.Number.{Number}
+use Rattle.numbers.specs.declared.parse.Number.the-variants.{Is, Bad}
 use Rattle.slices.specs.declared.search.Found.{Found}
 use Rattle.slices.specs.declared.search.Found.the-variants.{At, Missing}
 use Rattle.desk_parts.specs.declared.PartNumber.{PartNumber}

@@ -4,7 +4,7 @@
 ghost use mathlib.Core.Path.{_≡_};
 ghost use mathlib.Core.Bool.{false};
 ghost use Rattle.lists.specs.Write.{Put};
-ghost use Rattle.parse_numbers.specs.Answers.{numberOf};
+ghost use Rattle.numbers.specs.Answers.{numberOf};
 ghost use Rattle.slices.specs.Answers.{foundOf};
 ghost use Rattle.spec_numbers.specs.Parse.{parseU32, parseHex, parseI32};
 ghost use Rattle.spec_numbers.specs.Print.{decimal, signedDecimal, hexLower4};
@@ -14,7 +14,7 @@ ghost use Rattle.spec_strings.specs.Escape.{quoted, unescape};
 ghost use Rattle.spec_strings.specs.Table.{fault, lookup};
 ghost use Rattle.spec_strings.specs.Utf8.{isUtf8};
 ghost use Rattle.desk_parts.specs.Parts.{some, none, partOfNumber, partOfFound};
-use parse_numbers::Number;
+use numbers::parse::Number;
 use slices::search::Found;
 
 // 1 and a number, or two zeros where there is none.
@@ -61,7 +61,7 @@ pub fn part_of_found(a: Found) -> PartNumber
 pub extern "C" fn part_parse_u32(text: &[u8]) -> PartNumber
     ensures { λ r. ⌜ r ≡ partOfNumber (numberOf (parseU32 (now (text .entry)))) ⌝ }
 {
-    part_of_number(parse_numbers::parse_u32(text))
+    part_of_number(numbers::parse::parse_u32(text))
 }
 
 // Reads a u32 in hexadecimal.
@@ -69,7 +69,7 @@ pub extern "C" fn part_parse_u32(text: &[u8]) -> PartNumber
 pub extern "C" fn part_parse_hex(text: &[u8]) -> PartNumber
     ensures { λ r. ⌜ r ≡ partOfNumber (numberOf (parseHex (now (text .entry)))) ⌝ }
 {
-    part_of_number(parse_numbers::parse_hex(text))
+    part_of_number(numbers::parse::parse_hex(text))
 }
 
 // Reads an i32 in decimal; the value is its 32 bits.
@@ -77,7 +77,7 @@ pub extern "C" fn part_parse_hex(text: &[u8]) -> PartNumber
 pub extern "C" fn part_parse_i32(text: &[u8]) -> PartNumber
     ensures { λ r. ⌜ r ≡ partOfNumber (numberOf (parseI32 (now (text .entry)))) ⌝ }
 {
-    part_of_number(parse_numbers::parse_i32(text))
+    part_of_number(numbers::parse::parse_i32(text))
 }
 
 // Reads a double; the value is its 64 bits.
@@ -85,7 +85,7 @@ pub extern "C" fn part_parse_i32(text: &[u8]) -> PartNumber
 pub extern "C" fn part_parse_double(text: &[u8]) -> PartNumber
     ensures { λ r. ⌜ r ≡ partOfNumber (numberOf (readDouble (now (text .entry)))) ⌝ }
 {
-    part_of_number(read_double::read_double(text))
+    part_of_number(numbers::read_double::read_double(text))
 }
 
 // Prints a number in decimal.
@@ -93,7 +93,7 @@ pub extern "C" fn part_parse_double(text: &[u8]) -> PartNumber
 pub extern "C" fn part_print_decimal(n: u64, out: &mut [u8]) -> usize
     ensures { λ r. ⌜ Put (now (out .entry)) 0 (decimal n) (now (out .exit)) r ⌝ }
 {
-    print_decimal::put_decimal(out, 0, n)
+    numbers::print_decimal::put_decimal(out, 0, n)
 }
 
 // Prints the signed number of 32 bits in decimal.
@@ -101,7 +101,7 @@ pub extern "C" fn part_print_decimal(n: u64, out: &mut [u8]) -> usize
 pub extern "C" fn part_print_signed(bits: u32, out: &mut [u8]) -> usize
     ensures { λ r. ⌜ Put (now (out .entry)) 0 (signedDecimal (signed 32 bits)) (now (out .exit)) r ⌝ }
 {
-    print_decimal::put_signed(out, 0, bits)
+    numbers::print_decimal::put_signed(out, 0, bits)
 }
 
 // Prints `{:04x}`.
@@ -109,7 +109,7 @@ pub extern "C" fn part_print_signed(bits: u32, out: &mut [u8]) -> usize
 pub extern "C" fn part_print_hex4(n: u64, out: &mut [u8]) -> usize
     ensures { λ r. ⌜ Put (now (out .entry)) 0 (hexLower4 n) (now (out .exit)) r ⌝ }
 {
-    print_hex::put_hex_lower4(out, 0, n)
+    numbers::print_hex::put_hex_lower4(out, 0, n)
 }
 
 // Prints the double of 64 bits.
@@ -117,7 +117,7 @@ pub extern "C" fn part_print_hex4(n: u64, out: &mut [u8]) -> usize
 pub extern "C" fn part_print_double(bits: u64, out: &mut [u8]) -> usize
     ensures { λ r. ⌜ Put (now (out .entry)) 0 (printDouble bits) (now (out .exit)) r ⌝ }
 {
-    print_double::put_double(out, 0, bits)
+    numbers::print_double::put_double(out, 0, bits)
 }
 
 // Prints a text escaped and between quotes.
@@ -125,7 +125,7 @@ pub extern "C" fn part_print_double(bits: u64, out: &mut [u8]) -> usize
 pub extern "C" fn part_escape(text: &[u8], out: &mut [u8]) -> usize
     ensures { λ r. ⌜ Put (now (out .entry)) 0 (quoted (now (text .entry))) (now (out .exit)) r ⌝ }
 {
-    escapes::put_quoted(out, 0, text)
+    strings::escapes::put_quoted(out, 0, text)
 }
 
 // Reads what stands between quotes.
@@ -133,14 +133,14 @@ pub extern "C" fn part_escape(text: &[u8], out: &mut [u8]) -> usize
 pub extern "C" fn part_unescape(text: &[u8], out: &mut [u8]) -> usize
     ensures { λ r. ⌜ Put (now (out .entry)) 0 (unescape false (now (text .entry))) (now (out .exit)) r ⌝ }
 {
-    unescape::put_unescaped(out, 0, text)
+    strings::unescape::put_unescaped(out, 0, text)
 }
 
 #[no_mangle]
 pub extern "C" fn part_is_utf8(text: &[u8]) -> bool
     ensures { λ r. ⌜ r ≡ isUtf8 (now (text .entry)) ⌝ }
 {
-    utf8::is_utf8(text)
+    strings::utf8::is_utf8(text)
 }
 
 // The first entry of a string table that is refused with 17.
@@ -148,7 +148,7 @@ pub extern "C" fn part_is_utf8(text: &[u8]) -> bool
 pub extern "C" fn part_table_fault(bytes: &[u8], ends: &[u32]) -> PartNumber
     ensures { λ r. ⌜ r ≡ partOfFound (foundOf (fault (now (bytes .entry)) (now (ends .entry)))) ⌝ }
 {
-    part_of_found(string_table::find_fault(bytes, ends))
+    part_of_found(strings::table::find_fault(bytes, ends))
 }
 
 // The first id of a string table whose text is equal.
@@ -156,5 +156,5 @@ pub extern "C" fn part_table_fault(bytes: &[u8], ends: &[u32]) -> PartNumber
 pub extern "C" fn part_lookup(text: &[u8], bytes: &[u8], ends: &[u32]) -> PartNumber
     ensures { λ r. ⌜ r ≡ partOfFound (foundOf (lookup (now (text .entry)) (now (bytes .entry)) (now (ends .entry)))) ⌝ }
 {
-    part_of_found(string_table::lookup(text, bytes, ends))
+    part_of_found(strings::table::lookup(text, bytes, ends))
 }

@@ -13,16 +13,19 @@ use Rattle.spec_sheet.specs.Sheet.SheetRead.{sheet, malformed}
 use Rattle.spec_body.specs.Encode.{Encoded, encodeRecords}
 use Rattle.spec_body.specs.Encode.Encoded.{encoded}
 use Rattle.spec_body.specs.Operation as operation
-use Rattle.spec_body.specs.Operation.{Outcome, bodyLimit, encodeOutcome, underSheet, report, exitOf}
-use Rattle.spec_body.specs.Operation.Outcome.{refusedWith}
+use Rattle.spec_body.specs.Operation.{encodeOutcome}
+use Rattle.spec_answers.specs.Outcome.{Outcome, report, exitOf, measured}
+use Rattle.limits.specs.Limits.{bodyLimit}
+use Rattle.spec_inputs.specs.Inputs.{underSheet}
+use Rattle.spec_answers.specs.Outcome.Outcome.{refusedWith}
 use Rattle.sheet.specs.Sheets.{sheetAnswer, typesIn}
 use Rattle.sheet.specs.declared.opcode.Sheet.the-variants.{Read, Malformed}
-use Rattle.encode_answer.specs.Answers.{encodeReport}
+use Rattle.encode.specs.Answers.{encodeReport}
 use Rattle.encode.specs.Encoding.{Encoding}
 use Rattle.encode.specs.Encoding.Encoding.{all, refuses}
-use Rattle.encode_answer.specs.declared.EncodeAnswer.{EncodeAnswer}
-use Rattle.encode_answer.specs.declared.EncodeAnswer.the-variants.{Done, TooLarge, Short}
-use Rattle.encode_answer.specs.declared.EncodeAnswer.the-variants as variants
+use Rattle.encode.specs.declared.answer.EncodeAnswer.{EncodeAnswer}
+use Rattle.encode.specs.declared.answer.EncodeAnswer.the-variants.{Done, TooLarge, Short}
+use Rattle.encode.specs.declared.answer.EncodeAnswer.the-variants as variants
 use Rattle.encode.proofs.RecordsLoop.{not-done}
 
 -- the answer and the lent space afterwards are those of an outcome
@@ -37,7 +40,7 @@ record Written (x : Encoded) (out out′ : List ℕ) (n : ℕ) : Type 0 where
 
 module _ (x : Encoded) (out out′ : List ℕ) (r : EncodeAnswer) (d : Encoding x out out′ r) where
   pub refused-ends : ((n : ℕ) → r ≡ Done n → ⊥) → Told (encodeOutcome x) out r (zeros out)
-  unfolding encodeOutcome report exitOf
+  unfolding encodeOutcome report exitOf measured
   refused-ends f = go d
     where
       go : Encoding x out out′ r → Told (encodeOutcome x) out r (zeros out)
@@ -53,7 +56,7 @@ module _ (x : Encoded) (out out′ : List ℕ) (r : EncodeAnswer) (d : Encoding 
         go (refuses m p q h f a) = not-done r n m p q h a e
 
     pub too-large : bodyLimit < n → Told (encodeOutcome x) out TooLarge (zeros out)
-    unfolding encodeOutcome report exitOf encodeReport
+    unfolding encodeOutcome report exitOf encodeReport measured
     too-large h =
         let w = written in
         rw (w .is-body, lt-ltb bodyLimit (length (w .body)) (omega (arith, w .wrote .next))) (refl, refl)
@@ -66,13 +69,13 @@ module _ (x : Encoded) (out out′ : List ℕ) (r : EncodeAnswer) (d : Encoding 
       few = omega (arith, length-is)
 
       pub too-short : length out < n → Told (encodeOutcome x) out Short (zeros out)
-      unfolding encodeOutcome report exitOf encodeReport
+      unfolding encodeOutcome report exitOf encodeReport measured
       too-short l =
           let w = written in
           rw (w .is-body, le-ltb bodyLimit (length (w .body)) few, length-is, lt-ltb (length out) n l) (refl, refl)
 
       pub whole-body : n ≤ length out → Told (encodeOutcome x) out (Done n) out′
-      unfolding encodeOutcome report exitOf encodeReport
+      unfolding encodeOutcome report exitOf encodeReport measured
       whole-body l =
           let w = written in
           let q : 0 + length (w .body) ≡ n = omega (arith, length-is) in

@@ -1,2 +1,10 @@
+pub mod OperandLaws
+pub mod ShapeLaws
+pub mod CanonicalLaws
+pub mod AheadLaws
+pub mod CanonicalWrites
+pub mod CanonicalRecords
+pub mod OperandsLoop
+pub mod RecordLaws
 pub mod RecordsLoop
 pub mod EncodeAnswers

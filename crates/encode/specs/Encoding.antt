@@ -6,11 +6,11 @@ use Rattle.lists.specs.Write.{Put}
 use Rattle.spec_answers.specs.Report.{refusal}
 use Rattle.spec_body.specs.Encode.{Encoded}
 use Rattle.spec_body.specs.Encode.Encoded.{encoded, refused}
-use Rattle.encode_answer.specs.Answers.{encodeReport}
-use Rattle.encode_answer.specs.declared.EncodeAnswer.{EncodeAnswer}
-use Rattle.encode_answer.specs.declared.EncodeAnswer.the-variants.{Done}
+use Rattle.encode.specs.Answers.{encodeReport}
+use Rattle.encode.specs.declared.answer.EncodeAnswer.{EncodeAnswer}
+use Rattle.encode.specs.declared.answer.EncodeAnswer.the-variants.{Done}
 
--- all records, which come to x, were written from the front of the buffer: it was `out` and is `out′`, and r was answered
+-- all records, which are encoded to x, were written from the front of the buffer: it was `out` and is `out′`, and r was answered
 pub data Encoding (x : Encoded) (out out′ : List ℕ) (r : EncodeAnswer) : Type 0 where
   all : (bs : List ℕ) (k : ℕ) → x ≡ encoded bs → r ≡ Done k → Put out 0 bs out′ k → Encoding x out out′ r
   refuses : (n p q : ℕ) → 0 < n → x ≡ refused n p q → encodeReport r ≡ refusal n p q → Encoding x out out′ r

@@ -1,1 +1,7 @@
+pub mod Value
+pub mod Canonical
+pub mod Ahead
+pub mod OperandsWritten
+pub mod Written
+pub mod Answers
 pub mod Encoding

@@ -5,10 +5,11 @@ ghost use Prim.Native.Nat.{_-_, _≤_};
 ghost use lib.ListN.{length};
 ghost use Rattle.spec_body.specs.Encode.{encodeRecords};
 ghost use Rattle.spec_body.specs.Operation as operation;
-ghost use Rattle.spec_body.specs.Operation.{encodeOutcome, report, exitOf};
-ghost use Rattle.encode_answer.specs.Answers.{encodeReport};
+ghost use Rattle.spec_body.specs.Operation.{encodeOutcome};
+ghost use Rattle.spec_answers.specs.Outcome.{report, exitOf};
+ghost use Rattle.encode.specs.Answers.{encodeReport};
 ghost use Rattle.encode.specs.Encoding.{Encoding};
-use encode_answer::EncodeAnswer;
+use crate::answer::EncodeAnswer;
 use sheet::opcode::Sheet;
 
 // Writes all records: how many bytes they have, or the first refusal.
@@ -21,13 +22,13 @@ fn encode_records(
     requires { ⌜ last ≤ 255 ⌝ }
     ensures { λ r. ⌜ Encoding (encodeRecords (now (types .entry)) last (now (words .entry))) (now (out .entry)) (now (out .exit)) r ⌝ }
 {
-    let codes = plain_records::code_table();
-    let counts = plain_records::plain_counts(types, last);
+    let codes = crate::canonical::code_table();
+    let counts = crate::canonical::canonical_counts(types, last);
     let n = words.len() / 20;
     let mut k: usize = 0;
     let mut i: usize = 0;
     while i < n {
-        let r = write_record::record::encode_record(
+        let r = crate::record::encode_record(
             &codes,
             &counts,
             types,
@@ -66,7 +67,7 @@ pub fn encode_under(
         slices::write::clear(out);
         return r;
     };
-    if 65536 < n {
+    if limits::BODY_LIMIT < n {
         slices::write::clear(out);
         return EncodeAnswer::TooLarge;
     }
@@ -89,13 +90,13 @@ fn largest_of(above: usize) -> usize
 }
 
 // Encodes records of 20 words under the sheet that a text holds.
-pub fn encode(text: &[u8], words: &[u64], out: &mut [u8]) -> EncodeAnswer
-    ensures { λ r. ⌜ encodeReport r ≡ report (operation.encode (now (text .entry)) (now (words .entry))) (length (now (out .entry))) ⌝ }
-    ensures { λ _. ⌜ now (out .exit) ≡ exitOf (operation.encode (now (text .entry)) (now (words .entry))) (now (out .entry)) ⌝ }
+pub fn encode(sheet: &[u8], words: &[u64], out: &mut [u8]) -> EncodeAnswer
+    ensures { λ r. ⌜ encodeReport r ≡ report (operation.encode (now (sheet .entry)) (now (words .entry))) (length (now (out .entry))) ⌝ }
+    ensures { λ _. ⌜ now (out .exit) ≡ exitOf (operation.encode (now (sheet .entry)) (now (words .entry))) (now (out .entry)) ⌝ }
 {
     let mut types = [[0u8; 8]; 256];
     let mut ops = [[0usize; 4]; 256];
-    let s = sheet::opcode::read_sheet(text, &mut types, &mut ops);
+    let s = sheet::opcode::read_sheet(sheet, &mut types, &mut ops);
     match s {
         Sheet::Read(_, _, above, _) => {
             let last = largest_of(above);

@@ -1,3 +1,6 @@
+pub mod HoldLaws
+pub mod LabelLaws
+pub mod NameLaws
 pub mod CodeSteps
 pub mod LineTurns
 pub mod NamesLaws

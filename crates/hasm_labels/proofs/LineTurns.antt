@@ -7,24 +7,24 @@ use mathlib.Core.List.{List, [], _∷_, _++_, append-assoc}
 use lib.ListN.{length, drop, length-take}
 use lib.Seq.{take-take, drop-drop}
 use Rattle.lists.specs.Scan.{run, part}
-use Rattle.spec_listing.specs.Edition.{Edition}
+use Rattle.spec_inputs.specs.Context.{Context}
 use Rattle.spec_hasm.specs.Text.{linesOf}
 use Rattle.spec_hasm.specs.Line as definition
 use Rattle.spec_hasm.specs.Line.{statementOf}
 use Rattle.spec_hasm.specs.Line.Statement.{nothing, labelled, instruction}
 use Rattle.spec_hasm.specs.Assemble.{Assembled, Code, Label, LabelAt, codesFrom, codesOf, unlessBadName, sizeIn, holding, labelsFrom}
 use Rattle.spec_hasm.specs.Assemble.Label.{none, called}
-use Rattle.hasm_text.specs.Lines.{notFeed, lineLength, lineIn}
-use Rattle.hasm_text.proofs.LineLaws.{line-short}
-use Rattle.hasm_line.specs.Statements.{StatementIn}
-use Rattle.hasm_shape.proofs.PartLaws.{drop-take}
-use Rattle.label_list.specs.Holding.{waiting, Held}
-use Rattle.hasm_names.specs.NameReads.{RefusedBy, Sized}
+use Rattle.hasm_read.specs.Lines.{notFeed, lineLength, lineIn}
+use Rattle.hasm_read.proofs.LineLaws.{line-short}
+use Rattle.hasm_read.specs.Statements.{StatementIn}
+use Rattle.hasm_read.proofs.PartLaws.{drop-take}
+use Rattle.hasm_labels.specs.Holding.{waiting, Held}
+use Rattle.hasm_labels.specs.NameReads.{RefusedBy, Sized}
 use Rattle.hasm_labels.specs.Going.{Passed, CodeTaken, Going, Turned}
-use Rattle.label_list.specs.declared.hold.Progress.{Progress}
+use Rattle.hasm_labels.specs.declared.hold_label.Progress.{Progress}
 use Rattle.hasm_labels.proofs.CodeSteps.{codeOf, codes-nothing, codes-label, codes-code}
-use Rattle.hasm_line.specs.Statements.StatementIn.{none as read-none, label as read-label, code as read-code}
-use Rattle.hasm_line.specs.declared.statement.Statement.the-variants.{Nothing, Label as LabelRead, Instruction}
+use Rattle.hasm_read.specs.Statements.StatementIn.{none as read-none, label as read-label, code as read-code}
+use Rattle.hasm_read.specs.declared.statement.Statement.the-variants.{Nothing, Label as LabelRead, Instruction}
 
 -- the progress behind an instruction of k bytes, and behind a label
 abbrev passed : Progress → ℕ → Progress
@@ -34,7 +34,7 @@ abbrev labelRead : Progress → ℕ → ℕ → Progress
 labelRead p s m = record { waits = true; start = s; size = m; count = p .count; offset = p .offset; has = p .has; place = p .place; refusal = 0 }
 
 -- an instruction takes the label that waits, or is refused
-module _ (e : Edition) (s text t : List ℕ) (slots : List (List ℕ)) (p : Progress) (slots′ : List (List ℕ)) where
+module _ (e : Context) (s text t : List ℕ) (slots : List (List ℕ)) (p : Progress) (slots′ : List (List ℕ)) where
   pub code-passed : (q : Progress) (k : ℕ) → Sized e s k → Held text t slots p slots′ q → CodeTaken e s text t slots p slots′ (passed q k)
   code-passed q k z h =
       record {
@@ -95,12 +95,12 @@ unfolding holding
 holding-split none at rest = refl
 holding-split (called t) at rest = refl
 
-labels-cons : (e : Edition) (at : ℕ) (c : Code) (cs : List Code) → labelsFrom e at (c ∷ cs) ≡ holding (c .label) at [] ++ labelsFrom e (at + sizeIn e c) cs
+labels-cons : (e : Context) (at : ℕ) (c : Code) (cs : List Code) → labelsFrom e at (c ∷ cs) ≡ holding (c .label) at [] ++ labelsFrom e (at + sizeIn e c) cs
 unfolding labelsFrom
 labels-cons e at c cs = holding-split (c .label) at (labelsFrom e (at + sizeIn e c) cs)
 
 -- the pass in front of a line whose end was found
-module _ (e : Edition) (text t : List ℕ) (at n end : ℕ) (p : Progress) (slots : List (List ℕ)) (g : Going e text t at n p slots)
+module _ (e : Context) (text t : List ℕ) (at n end : ℕ) (p : Progress) (slots : List (List ℕ)) (g : Going e text t at n p slots)
     (h : at < length text) (k : end ≡ at + run notFeed (drop at text)) (m : end ≤ length text) where
   pub turn-nothing : statementOf e (lineIn text at end) ≡ nothing → Turned e text t (end + 1) n p slots
   turn-nothing x =

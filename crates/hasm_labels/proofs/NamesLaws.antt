@@ -6,22 +6,22 @@ use native.Mathlib.Omega.{arith}
 use mathlib.Core.List.{List, [], _++_, append-nil}
 use lib.ListN.{length, drop}
 use Rattle.lists.specs.Scan.{run}
-use Rattle.spec_listing.specs.Edition.{Edition}
+use Rattle.spec_inputs.specs.Context.{Context}
 use Rattle.spec_hasm.specs.Assemble.{Assembled, Code, LabelAt, codesOf, unlessBadName, labelsFrom, labelOffset}
-use Rattle.hasm_text.specs.Lines.{notFeed}
-use Rattle.label_list.specs.Holding.{waiting}
+use Rattle.hasm_read.specs.Lines.{notFeed}
+use Rattle.hasm_labels.specs.Holding.{waiting}
 use Rattle.hasm_labels.specs.Going.{LineAt, Going}
 use Rattle.hasm_labels.specs.NamesRead.{NamesRead}
 use Rattle.hasm_labels.specs.NamesRead.NamesRead.{good}
-use Rattle.hasm_labels.specs.declared.pass.Names.the-variants.{Good}
-use Rattle.label_list.specs.declared.hold.Progress.{Progress}
+use Rattle.hasm_labels.specs.declared.names_pass.Names.the-variants.{Good}
+use Rattle.hasm_labels.specs.declared.hold_label.Progress.{Progress}
 use Rattle.hasm_labels.proofs.CodeSteps.{codes-none}
-use Rattle.label_list.proofs.LabelLaws.{offset-none, labels-none}
+use Rattle.hasm_labels.proofs.LabelLaws.{offset-none, labels-none}
 
 abbrev atStart : Progress
 atStart = record { waits = false; start = 0; size = 0; count = 0; offset = 0; has = false; place = 0; refusal = 0 }
 
-pub going-start : (e : Edition) (text t : List ℕ) (slots : List (List ℕ)) → Going e text t 0 1 atStart slots
+pub going-start : (e : Context) (text t : List ℕ) (slots : List (List ℕ)) → Going e text t 0 1 atStart slots
 going-start e text t slots =
     record {
       near = omega arith;
@@ -39,7 +39,7 @@ going-start e text t slots =
     }
 
 -- the next line
-pub going-line : {e : Edition} {text t : List ℕ} {at n : ℕ} {p : Progress} {slots : List (List ℕ)} (end : ℕ) → Going e text t at n p slots → at < length text
+pub going-line : {e : Context} {text t : List ℕ} {at n : ℕ} {p : Progress} {slots : List (List ℕ)} (end : ℕ) → Going e text t at n p slots → at < length text
     → (end ≡ at + run notFeed (drop at text)) × (end ≤ length text) → length text ≤ 1048576 → LineAt text at end p
 going-line end g h k s =
     record {
@@ -55,15 +55,15 @@ going-line end g h k s =
       };
     }
 
-no-names : (e : Edition) (rest : Assembled) → unlessBadName e [] rest ≡ rest
+no-names : (e : Context) (rest : Assembled) → unlessBadName e [] rest ≡ rest
 unfolding unlessBadName
 no-names e rest = refl
 
-no-labels : (e : Edition) (at : ℕ) → labelsFrom e at [] ≡ []
+no-labels : (e : Context) (at : ℕ) → labelsFrom e at [] ≡ []
 unfolding labelsFrom
 no-labels e at = refl
 
-pub going-end : (e : Edition) (text t : List ℕ) (at n : ℕ) (p : Progress) (slots : List (List ℕ)) → Going e text t at n p slots → length text ≤ at → length text ≤ 1048576
+pub going-end : (e : Context) (text t : List ℕ) (at n : ℕ) (p : Progress) (slots : List (List ℕ)) → Going e text t at n p slots → length text ≤ at → length text ≤ 1048576
     → NamesRead e text t slots (Good (p .count) (p .has) (p .place))
 going-end e text t at n p slots g h s =
     let c = codes-none e n (waiting text p) text at h in

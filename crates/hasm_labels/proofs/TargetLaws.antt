@@ -6,19 +6,19 @@ use native.Mathlib.Omega.{arith}
 use mathlib.Core.List.{List, []}
 use Rattle.lists.specs.Choice.{pick}
 use Rattle.lists.specs.Found.Found.{found, missing}
-use Rattle.spec_listing.specs.Edition.{Edition}
+use Rattle.spec_inputs.specs.Context.{Context}
 use Rattle.spec_hasm.specs.Assemble.{Assembled, codesOf, unlessBadName, labelsFrom, labelOffset}
 use Rattle.spec_hasm.specs.Assemble.Assembled.{assembled, refusedAt}
 use Rattle.hasm_labels.specs.NamesRead.{NamesRead}
 use Rattle.hasm_labels.specs.NamesRead.NamesRead.{good, unknown, miscounted}
-use Rattle.hasm_labels.specs.declared.pass.Names.{Names}
-use Rattle.hasm_labels.specs.declared.pass.Names.the-variants.{Good}
+use Rattle.hasm_labels.specs.declared.names_pass.Names.{Names}
+use Rattle.hasm_labels.specs.declared.names_pass.Names.the-variants.{Good}
 
 -- a refusal is no bytes
 not-bytes : (number line : ℕ) → assembled [] ≡ refusedAt number line 0 → ⊥
 not-bytes number line q = let z : _≡_ {A = ℕ} 0 1 = cc q in omega (arith, z)
 
-module _ (e : Edition) (text t : List ℕ) (slots : List (List ℕ)) where
+module _ (e : Context) (text t : List ℕ) (slots : List (List ℕ)) where
   -- no name of the text is refused, so the pass is not
   pub all-good : {P : Type 0} (r : Names) → NamesRead e text t slots r → ((rest : Assembled) → unlessBadName e (codesOf e text) rest ≡ rest)
       → ((count : ℕ) (has : Bool) (offset : ℕ) → r ≡ Good count has offset → P) → P

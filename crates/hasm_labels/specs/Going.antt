@@ -5,17 +5,17 @@ use mathlib.Core.Bool.{false}
 use mathlib.Core.List.{List, [], _++_}
 use lib.ListN.{length, drop}
 use Rattle.lists.specs.Scan.{run}
-use Rattle.spec_listing.specs.Edition.{Edition}
+use Rattle.spec_inputs.specs.Context.{Context}
 use Rattle.spec_hasm.specs.Text.{linesOf}
 use Rattle.spec_hasm.specs.Assemble.{Assembled, LabelAt, codesFrom, codesOf, unlessBadName, holding, labelsFrom}
 use Rattle.spec_hasm.specs.Assemble.Assembled.{refusedAt}
-use Rattle.hasm_text.specs.Lines.{notFeed}
-use Rattle.label_list.specs.Holding.{waiting, Small, Noted}
-use Rattle.hasm_names.specs.NameReads.{RefusedBy, Sized}
-use Rattle.label_list.specs.declared.hold.Progress.{Progress}
+use Rattle.hasm_read.specs.Lines.{notFeed}
+use Rattle.hasm_labels.specs.Holding.{waiting, Small, Noted}
+use Rattle.hasm_labels.specs.NameReads.{RefusedBy, Sized}
+use Rattle.hasm_labels.specs.declared.hold_label.Progress.{Progress}
 
 -- the instruction s of k bytes took the label that waited
-pub record Passed (e : Edition) (s text t : List ℕ) (slots : List (List ℕ)) (p : Progress) (slots′ : List (List ℕ)) (p′ : Progress) : Type 0 where
+pub record Passed (e : Context) (s text t : List ℕ) (slots : List (List ℕ)) (p : Progress) (slots′ : List (List ℕ)) (p′ : Progress) : Type 0 where
   pub bytes : ℕ
   pub sized : Sized e s bytes
   pub waits : p′ .waits ≡ false
@@ -28,7 +28,7 @@ pub record Passed (e : Edition) (s text t : List ℕ) (slots : List (List ℕ)) 
   pub refusal : p′ .refusal ≡ 0
 
 -- or it was refused, by 4 or 5
-pub record CodeTaken (e : Edition) (s text t : List ℕ) (slots : List (List ℕ)) (p : Progress) (slots′ : List (List ℕ)) (p′ : Progress) : Type 0 where
+pub record CodeTaken (e : Context) (s text t : List ℕ) (slots : List (List ℕ)) (p : Progress) (slots′ : List (List ℕ)) (p′ : Progress) : Type 0 where
   pub good : (p′ .refusal ≡ 4 → ⊥) → (p′ .refusal ≡ 5 → ⊥) → Passed e s text t slots p slots′ p′
   pub unknown : p′ .refusal ≡ 4 → RefusedBy e 4 s
   pub miscounted : p′ .refusal ≡ 5 → RefusedBy e 5 s
@@ -43,7 +43,7 @@ pub record LineAt (text : List ℕ) (at end : ℕ) (p : Progress) : Type 0 where
 
 -- the pass stands in front of the line at `at`, which is line n: names and labels of the text are those from here on, behind
 -- the labels so far. No instruction has more than 65 bytes, and each line has one at most
-pub record Going (e : Edition) (text t : List ℕ) (at n : ℕ) (p : Progress) (slots : List (List ℕ)) : Type 0 where
+pub record Going (e : Context) (text t : List ℕ) (at n : ℕ) (p : Progress) (slots : List (List ℕ)) : Type 0 where
   pub near : at ≤ length text + 1
   pub few : n ≤ at + 1
   pub start : p .start ≤ 1048576
@@ -58,7 +58,7 @@ pub record Going (e : Edition) (text t : List ℕ) (at n : ℕ) (p : Progress) (
   pub noted : Noted text t taken p slots
 
 -- the pass behind line n, which ends in front of `at`: it goes on, or the line was refused
-pub record Turned (e : Edition) (text t : List ℕ) (at n : ℕ) (p : Progress) (slots : List (List ℕ)) : Type 0 where
+pub record Turned (e : Context) (text t : List ℕ) (at n : ℕ) (p : Progress) (slots : List (List ℕ)) : Type 0 where
   pub good : (p .refusal ≡ 4 → ⊥) → (p .refusal ≡ 5 → ⊥) → Going e text t at (n + 1) p slots
   pub unknown : p .refusal ≡ 4 → (rest : Assembled) → unlessBadName e (codesOf e text) rest ≡ refusedAt 4 n 0
   pub miscounted : p .refusal ≡ 5 → (rest : Assembled) → unlessBadName e (codesOf e text) rest ≡ refusedAt 5 n 0

@@ -6,16 +6,16 @@ use mathlib.Core.List.{List}
 use lib.ListN.{length, take}
 use Rattle.lists.specs.Choice.{pick}
 use Rattle.lists.specs.Found.Found.{found, missing}
-use Rattle.spec_listing.specs.Edition.{Edition}
+use Rattle.spec_inputs.specs.Context.{Context}
 use Rattle.spec_hasm.specs.Assemble.{Assembled, codesOf, unlessBadName, labelsFrom, labelOffset}
 use Rattle.spec_hasm.specs.Assemble.Assembled.{refusedAt}
-use Rattle.label_list.specs.Slots.{labelsIn}
-use Rattle.hasm_labels.specs.declared.pass.Names.{Names}
-use Rattle.hasm_labels.specs.declared.pass.Names.the-variants.{Good, Unknown, Count}
+use Rattle.hasm_labels.specs.Slots.{labelsIn}
+use Rattle.hasm_labels.specs.declared.names_pass.Names.{Names}
+use Rattle.hasm_labels.specs.declared.names_pass.Names.the-variants.{Good, Unknown, Count}
 
 -- "then 4 and 5 over all lines"; "one entry for each label line that an instruction takes", stored where all fit; and the
 -- offset of the label t
-pub data NamesRead (e : Edition) (text t : List ℕ) (slots : List (List ℕ)) (r : Names) : Type 0 where
+pub data NamesRead (e : Context) (text t : List ℕ) (slots : List (List ℕ)) (r : Names) : Type 0 where
   good : (count : ℕ) (has : Bool) (offset : ℕ) → r ≡ Good count has offset → ((rest : Assembled) → unlessBadName e (codesOf e text) rest ≡ rest)
       → count ≡ length (labelsFrom e 0 (codesOf e text)) → labelOffset (labelsFrom e 0 (codesOf e text)) t ≡ pick has (found offset) missing → offset < 2 ^ 32
       → (count ≤ length slots → labelsIn text (take count slots) ≡ labelsFrom e 0 (codesOf e text)) → NamesRead e text t slots r

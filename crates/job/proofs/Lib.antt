@@ -1,1 +1,5 @@
+pub mod PrintLaws
+pub mod SoundLaws
+pub mod ListLaws
+pub mod AssembleLaws
 pub mod RunLaws

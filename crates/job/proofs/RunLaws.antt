@@ -13,46 +13,47 @@ use Rattle.lists.proofs.Writes.{put-fits, kept-length}
 use Rattle.spec_answers.specs.Report.{zeros, written}
 use Rattle.spec_sheet.specs.Line.{Op}
 use Rattle.spec_sheet.specs.Sheet.{typeRows, infoRows, above}
-use Rattle.spec_job.specs.Job.{Edition, JobRead, editionAt, withBody, withText, readList, readAssemble}
-use Rattle.spec_job.specs.Job.EditionRead.{badEdition}
+use Rattle.spec_job.specs.Job.{JobInputs, JobRead, inputsAt, withBody, withText, readList, readAssemble}
+use Rattle.spec_job.specs.Job.InputsRead.{badInputs}
 use Rattle.spec_job.specs.Job.JobRead.{listJob, badLine}
 use Rattle.spec_job.proofs.JobLaws.{list-bad, list-body, assemble-bad, assemble-text}
-use Rattle.spec_job.specs.Printed.{jobLimit, refusedText, printedJob, printed}
-use Rattle.job_reader.specs.ReaderAnswers.{asked}
-use Rattle.job_reader.specs.declared.reader.Asked.{Asked}
-use Rattle.job_reader.proofs.AskedLaws.{readAs, read-as}
+use Rattle.spec_job.specs.Printed.{refusedText, printedJob, printed}
+use Rattle.limits.specs.Limits.{jobLimit}
+use Rattle.job_read.specs.ReaderAnswers.{asked}
+use Rattle.job_read.specs.declared.reader.Asked.{Asked}
+use Rattle.job_read.proofs.AskedLaws.{readAs, read-as}
 use Rattle.job.specs.Run.{runText}
-use Rattle.printed.specs.Prints.{Prints, printedMost}
-use Rattle.printed.proofs.PrintLaws.{refusal-prints}
-use Rattle.job_reader.proofs.ReadLaws.{EditionWas, edition-held}
+use Rattle.job.specs.Prints.{Prints, printedMost}
+use Rattle.job.proofs.PrintLaws.{refusal-prints}
+use Rattle.job_read.proofs.ReadLaws.{InputsWas, inputs-held}
 
--- an edition that was read, and what is read behind it
-module _ (job : List ℕ) (start : ℕ) {types ops : List (List ℕ)} {bytes ends : List ℕ} {b line m count size : ℕ} (w : EditionWas (editionAt job start 2) types ops bytes ends b line m count size) (h : length job ≤ 65536) where
-  edition-prints : (x : Edition → JobRead) (read : JobRead) → read ≡ x (w .of) → (texts marks : List ℕ) → texts ≡ take size bytes → marks ≡ take count ends → size ≤ length bytes → count ≤ length ends
+-- inputs that were read, and what is read behind it
+module _ (job : List ℕ) (start : ℕ) {types ops : List (List ℕ)} {bytes ends : List ℕ} {b line m count size : ℕ} (w : InputsWas (inputsAt job start 2) types ops bytes ends b line m count size) (h : length job ≤ 65536) where
+  inputs-prints : (x : JobInputs → JobRead) (read : JobRead) → read ≡ x (w .of) → (texts tableEnds : List ℕ) → texts ≡ take size bytes → tableEnds ≡ take count ends → size ≤ length bytes → count ≤ length ends
       → (before after : List ℕ) (r : ℕ)
-      → ((os : List Op) → types ≡ typeRows os → ops ≡ infoRows os → m ≡ above 0 os → Prints (printedJob job (x (record { opcodes = os; bytes = texts; ends = marks }))) before after r)
+      → ((os : List Op) → types ≡ typeRows os → ops ≡ infoRows os → m ≡ above 0 os → Prints (printedJob job (x (record { opcodes = os; bytes = texts; ends = tableEnds }))) before after r)
       → Prints (printedJob job read) before after r
-  edition-prints x read e texts marks p q l n before after r k =
-      let held = edition-held job start w h texts marks p q l n in
+  inputs-prints x read e texts tableEnds p q l n before after r k =
+      let held = inputs-held job start w h texts tableEnds p q l n in
       rw e (rw held at (k (w .of .opcodes) (w .held .type-rows) (w .held .info-rows) (w .above-is)))
 
-  module _ (lists : Bool) (texts marks : List ℕ) (p : texts ≡ take size bytes) (q : marks ≡ take count ends) (l : size ≤ length bytes) (n : count ≤ length ends) (before after : List ℕ) (r : ℕ) where
+  module _ (lists : Bool) (texts tableEnds : List ℕ) (p : texts ≡ take size bytes) (q : tableEnds ≡ take count ends) (l : size ≤ length bytes) (n : count ≤ length ends) (before after : List ℕ) (r : ℕ) where
     pub list-prints : lists ≡ true
-        → ((os : List Op) → types ≡ typeRows os → ops ≡ infoRows os → m ≡ above 0 os → Prints (printedJob job (withBody job b line (listJob (record { opcodes = os; bytes = texts; ends = marks })))) before after r)
+        → ((os : List Op) → types ≡ typeRows os → ops ≡ infoRows os → m ≡ above 0 os → Prints (printedJob job (withBody job b line (listJob (record { opcodes = os; bytes = texts; ends = tableEnds })))) before after r)
         → Prints (printedJob job (pick lists (readList job start) (readAssemble job start))) before after r
     list-prints e k =
-        rw e (edition-prints (λ (f : Edition). withBody job b line (listJob f)) (readList job start) (list-body job start (w .of) b line (w .is-edition)) texts marks p q l n before after r k)
+        rw e (inputs-prints (λ (f : JobInputs). withBody job b line (listJob f)) (readList job start) (list-body job start (w .of) b line (w .is-inputs)) texts tableEnds p q l n before after r k)
 
     pub assemble-prints : lists ≡ false
-        → ((os : List Op) → types ≡ typeRows os → ops ≡ infoRows os → Prints (printedJob job (withText job b line (record { opcodes = os; bytes = texts; ends = marks }))) before after r)
+        → ((os : List Op) → types ≡ typeRows os → ops ≡ infoRows os → Prints (printedJob job (withText job b line (record { opcodes = os; bytes = texts; ends = tableEnds }))) before after r)
         → Prints (printedJob job (pick lists (readList job start) (readAssemble job start))) before after r
     assemble-prints e k =
-        rw e (edition-prints (withText job b line) (readAssemble job start) (assemble-text job start (w .of) b line (w .is-edition)) texts marks p q l n before after r (λ os t o a. k os t o))
+        rw e (inputs-prints (withText job b line) (readAssemble job start) (assemble-text job start (w .of) b line (w .is-inputs)) texts tableEnds p q l n before after r (λ os t o a. k os t o))
 
--- a malformed line of the edition
-pub edition-off : (job : List ℕ) (start line : ℕ) (lists : Bool) → editionAt job start 2 ≡ badEdition line → pick lists (readList job start) (readAssemble job start) ≡ badLine line
-edition-off job start line true e = list-bad job start line e
-edition-off job start line false e = assemble-bad job start line e
+-- a malformed line of the inputs
+pub inputs-off : (job : List ℕ) (start line : ℕ) (lists : Bool) → inputsAt job start 2 ≡ badInputs line → pick lists (readList job start) (readAssemble job start) ≡ badLine line
+inputs-off job start line true e = list-bad job start line e
+inputs-off job start line false e = assemble-bad job start line e
 
 -- cleared once, a text holds zeros
 pub still-zeros : (before clean : List ℕ) → clean ≡ replicate (length before) 0 → clean ≡ replicate (length clean) 0

@@ -2,15 +2,16 @@
 ghost use mathlib.Core.Path.{_≡_};
 ghost use Prim.Native.Nat.{_≤_};
 ghost use lib.ListN.{length, replicate};
+ghost use Rattle.limits.specs.Limits.{jobLimit, jobOutput};
 ghost use Rattle.lists.specs.Choice.{pick};
 ghost use Rattle.spec_answers.specs.Report.{written, zeros};
 ghost use Rattle.spec_job.specs.Job.{readList, readAssemble};
 ghost use Rattle.spec_job.specs.Printed.{printedJob};
 ghost use Rattle.job.specs.Run.{runText};
-ghost use Rattle.printed.specs.Prints.{Prints};
-use job_reader::reader::Asked;
-use job_reader::reader::EditionAnswer;
-use printed::refused;
+ghost use Rattle.job.specs.Prints.{Prints};
+use crate::printed::refused;
+use job_read::reader::Asked;
+use job_read::reader::InputsAnswer;
 use slices::write::clear;
 
 // Space for a job's strings: two digits make a byte, so that half of the job's limit is enough. No contract, since the
@@ -19,39 +20,50 @@ fn string_space() -> [u8; 32768] {
     [0; 32768]
 }
 
-fn end_space() -> [u32; 4096] {
-    [0; 4096]
+fn end_space() -> [u32; limits::JOB_STRING_LIMIT] {
+    [0; limits::JOB_STRING_LIMIT]
 }
 
-// Prints a job whose edition stands at `start`, behind the line that says what it asks for: a listing, or else a body.
+// Prints a job whose inputs stand at `start`, behind the line that says what it asks for: a listing, or else a body.
 fn print_job(lists: bool, job: &[u8], start: usize, text: &mut [u8]) -> usize
-    requires { ⌜ (length (now job) ≤ 65536) × (65536 ≤ length (now text)) × (now text ≡ replicate (length (now text)) 0) ⌝ }
+    requires { ⌜ (length (now job) ≤ jobLimit) × (jobOutput ≤ length (now text)) × (now text ≡ replicate (length (now text)) 0) ⌝ }
     ensures { λ r. ⌜ Prints (printedJob (now (job .entry)) (pick lists (readList (now (job .entry)) start) (readAssemble (now (job .entry)) start))) (now (text .entry)) (now (text .exit)) r ⌝ }
 {
     let mut types = [[0u8; 8]; 256];
     let mut ops = [[0usize; 4]; 256];
     let mut bytes = string_space();
     let mut ends = end_space();
-    let e = job_reader::reader::edition_at(
-        job,
-        start,
-        2,
-        &mut types,
-        &mut ops,
-        &mut bytes,
-        &mut ends,
-    );
+    let e = job_read::reader::inputs_at(job, start, 2, &mut types, &mut ops, &mut bytes, &mut ends);
     match e {
-        EditionAnswer::Read(at, line, above, count, size) => {
+        InputsAnswer::Read(at, line, above, count, size) => {
             let texts = &bytes[0..size];
-            let marks = &ends[0..count];
+            let table_ends = &ends[0..count];
             if lists {
-                list_job::print_list(job, at, line, &types, &ops, above, texts, marks, text)
+                crate::list_job::print_list(
+                    job,
+                    at,
+                    line,
+                    &types,
+                    &ops,
+                    above,
+                    texts,
+                    table_ends,
+                    text,
+                )
             } else {
-                assemble_job::print_assembled(job, at, line, &types, &ops, texts, marks, text)
+                crate::assemble_job::print_assembled(
+                    job,
+                    at,
+                    line,
+                    &types,
+                    &ops,
+                    texts,
+                    table_ends,
+                    text,
+                )
             }
         }
-        EditionAnswer::BadLine(bad) => refused(text, 1, bad),
+        InputsAnswer::BadLine(bad) => refused(text, 1, bad),
     }
 }
 
@@ -66,10 +78,10 @@ pub fn run(job: &[u8], text: &mut [u8]) -> usize
     if text.len() < 131078 {
         return 0;
     }
-    if 65536 < job.len() {
+    if limits::JOB_LIMIT < job.len() {
         return refused(text, 18, 0);
     }
-    let w = job_reader::reader::which_job(job);
+    let w = job_read::reader::which_job(job);
     match w {
         Asked::List => print_job(true, job, 9, text),
         Asked::Assemble => print_job(false, job, 13, text),

@@ -9,44 +9,45 @@ use lib.ListN.{length, replicate, length-replicate}
 use Rattle.lists.specs.Choice.{pick}
 use Rattle.spec_body.specs.Decode.{Decoded, decodeBody}
 use Rattle.spec_body.specs.Decode.Decoded.{decoded, beyond, cut}
-use Rattle.spec_listing.specs.Edition.{Edition, Options, nameOf, isJump}
+use Rattle.spec_inputs.specs.Context.{Context, nameOf, isJump, contextFrom}
+use Rattle.spec_listing.specs.Options.{Options}
 use Rattle.spec_listing.specs.Labels.{labelsOf, labelOffsets, among, different}
-use Rattle.spec_listing.specs.Listing.{Listed, linesOf, longLine, entriesFor, unlessLong, listDecoded}
-use Rattle.labels.specs.Collecting.{tables, collectedOf, AllMarked}
-use Rattle.labels.specs.declared.collect.Collected.the-variants as collected
-use Rattle.body_lines.specs.Parts.{Decodes, recordsOf, Marked, editionOf, Lined}
-use Rattle.body_lines.specs.Parts.Lined.{all, over}
+use Rattle.spec_listing.specs.Listing.{Listed, longLine, unlessLong, listDecoded, listedText, listEntries}
+use Rattle.list_labels.specs.Collecting.{tables, collectedOf, AllFlagged}
+use Rattle.list_labels.specs.declared.collect.Collected.the-variants as collected
+use Rattle.listing.specs.Parts.{Decodes, recordsOf, Flagged, Lined}
+use Rattle.listing.specs.Parts.Lined.{all, over}
 use Rattle.listing.specs.Bodies.{refusalOf, Written}
 use Rattle.listing.specs.Bodies.Written.{whole, stopped}
-use Rattle.body_lines.specs.declared.Lines.{Lines}
-use Rattle.body_lines.specs.declared.Lines.the-variants as lines
+use Rattle.listing.specs.declared.body_lines.Lines.{Lines}
+use Rattle.listing.specs.declared.body_lines.Lines.the-variants as lines
 use Rattle.listing.specs.declared.body.Part.the-variants as part
 
 -- labels depend on no string
-pub strings-aside : (source : List ℕ) (types ops : List (List ℕ)) (bytes ends : List ℕ) (rs : List (List ℕ)) → labelOffsets (tables source types ops) rs ≡ labelOffsets (editionOf source types ops bytes ends) rs
+pub strings-aside : (source : List ℕ) (types ops : List (List ℕ)) (bytes ends : List ℕ) (rs : List (List ℕ)) → labelOffsets (tables source types ops) rs ≡ labelOffsets (contextFrom source types ops bytes ends) rs
 unfolding labelOffsets labelsOf nameOf isJump
 strings-aside source types ops bytes ends [] = refl
 strings-aside source types ops bytes ends (r ∷ rs) = ap (λ (l : List ℕ). labelsOf (tables source types ops) r ++ l) (strings-aside source types ops bytes ends rs)
 
 -- what was collected, from the answer
-pub record Entries (e : Edition) (d : Decoded) (n : ℕ) : Type 0 where
+pub record Entries (e : Context) (d : Decoded) (n : ℕ) : Type 0 where
   pub records : List (List ℕ)
   pub are : d ≡ decoded records
   pub count : n ≡ different (labelOffsets e records)
 
-pub was-entries : (e : Edition) (d : Decoded) (n : ℕ) → collectedOf e d ≡ collected.Entries n → Entries e d n
+pub was-entries : (e : Context) (d : Decoded) (n : ℕ) → collectedOf e d ≡ collected.Entries n → Entries e d n
 unfolding collectedOf
 was-entries e (decoded rs) n q = record { records = rs; are = refl; count = cc q }
 was-entries e (beyond at) n q = absurd (let z : _≡_ {A = ℕ} 0 1 = cc q in omega arith)
 was-entries e (cut at) n q = absurd (let z : _≡_ {A = ℕ} 0 1 = cc q in omega arith)
 
-pub was-beyond : (e : Edition) (d : Decoded) (at : ℕ) → collectedOf e d ≡ collected.Beyond at → d ≡ beyond at
+pub was-beyond : (e : Context) (d : Decoded) (at : ℕ) → collectedOf e d ≡ collected.Beyond at → d ≡ beyond at
 unfolding collectedOf
 was-beyond e (decoded rs) at q = absurd (let z : _≡_ {A = ℕ} 0 1 = cc q in omega arith)
 was-beyond e (beyond k) at q = let z : k ≡ at = cc q in ap beyond z
 was-beyond e (cut k) at q = absurd (let z : _≡_ {A = ℕ} 0 1 = cc q in omega arith)
 
-pub was-cut : (e : Edition) (d : Decoded) (at : ℕ) → collectedOf e d ≡ collected.Cut at → d ≡ cut at
+pub was-cut : (e : Context) (d : Decoded) (at : ℕ) → collectedOf e d ≡ collected.Cut at → d ≡ cut at
 unfolding collectedOf
 was-cut e (decoded rs) at q = absurd (let z : _≡_ {A = ℕ} 0 1 = cc q in omega arith)
 was-cut e (beyond k) at q = absurd (let z : _≡_ {A = ℕ} 0 1 = cc q in omega arith)
@@ -56,32 +57,32 @@ one-is : (b : Bool) → eqb (pick b 1 0) 1 ≡ b
 one-is true = refl
 one-is false = refl
 
--- the marks are those that the lines ask for
-pub marks-say : (source : List ℕ) (types ops : List (List ℕ)) (bytes ends : List ℕ) (d : Decoded) (marks : List ℕ) (n : ℕ) → Entries (tables source types ops) d n → AllMarked (tables source types ops) d marks
-    → Marked marks (labelOffsets (editionOf source types ops bytes ends) (recordsOf d))
+-- the flags are those that the lines ask for
+pub flags-say : (source : List ℕ) (types ops : List (List ℕ)) (bytes ends : List ℕ) (d : Decoded) (flags : List ℕ) (n : ℕ) → Entries (tables source types ops) d n → AllFlagged (tables source types ops) d flags
+    → Flagged flags (labelOffsets (contextFrom source types ops bytes ends) (recordsOf d))
 unfolding recordsOf
-marks-say source types ops bytes ends d marks n x m i h =
+flags-say source types ops bytes ends d flags n x m i h =
     let a = m (x .records) (x .are) i h in
     let b = strings-aside source types ops bytes ends (x .records) in
-    rw (x .are, a, b) (one-is (among i (labelOffsets (editionOf source types ops bytes ends) (x .records))))
+    rw (x .are, a, b) (one-is (among i (labelOffsets (contextFrom source types ops bytes ends) (x .records))))
 
-pub decodes : (types : List (List ℕ)) (last : ℕ) (s : List ℕ) (e : Edition) (n : ℕ) → Entries e (decodeBody types last s) n → Decodes types last s
+pub decodes : (types : List (List ℕ)) (last : ℕ) (s : List ℕ) (e : Context) (n : ℕ) → Entries e (decodeBody types last s) n → Decodes types last s
 decodes types last s e n x = record { records = x .records; are = x .are }
 
 module _ (o : Options) (source : List ℕ) (types ops : List (List ℕ)) (bytes ends indent : List ℕ) (d : Decoded) (out : List ℕ) («from» : ℕ) (out′ : List ℕ) where
-  abbrev ed : Edition
-  ed = editionOf source types ops bytes ends
+  abbrev ed : Context
+  ed = contextFrom source types ops bytes ends
 
   abbrev Lines-of : Lines → Type 0
-  Lines-of r = Lined (linesOf o ed (labelOffsets ed (recordsOf d)) indent (recordsOf d)) (longLine o ed indent (recordsOf d)) out «from» out′ r
+  Lines-of r = Lined (listedText o ed (labelOffsets ed (recordsOf d)) indent (recordsOf d)) (longLine o ed indent (recordsOf d)) out «from» out′ r
 
   pub all-listed : (n m k : ℕ) → Entries (tables source types ops) d n → m ≡ pick (o .showLabels) n 0 → Lines-of (lines.To k) → Written (listDecoded o ed indent d) out «from» out′ (part.Listed k m)
-  unfolding listDecoded unlessLong recordsOf entriesFor
+  unfolding listDecoded unlessLong recordsOf listEntries
   all-listed n m k x q (all k′ l r w) =
       let c : k′ ≡ k = cc (sym r) in
       let b = strings-aside source types ops bytes ends (x .records) in
-      let f : m ≡ entriesFor o ed (x .records) = q ∙ ap (λ (j : ℕ). pick (o .showLabels) j 0) (x .count ∙ ap different b) in
-      whole (linesOf o ed (labelOffsets ed (recordsOf d)) indent (recordsOf d)) k m (rw (x .are, f) (rw (rw (x .are) at l))) refl (rw (sym c) w)
+      let f : m ≡ listEntries o ed (x .records) = q ∙ ap (λ (j : ℕ). pick (o .showLabels) j 0) (x .count ∙ ap different b) in
+      whole (listedText o ed (labelOffsets ed (recordsOf d)) indent (recordsOf d)) k m (rw (x .are, f) (rw (rw (x .are) at l))) refl (rw (sym c) w)
   all-listed n m k x q (over at l r) = absurd (let z : _≡_ {A = ℕ} 0 1 = cc r in omega arith)
 
   pub one-long : (n at : ℕ) → Entries (tables source types ops) d n → Lines-of (lines.Long at) → length out′ ≡ length out → Written (listDecoded o ed indent d) out «from» out′ (part.Long at)

@@ -1,14 +1,16 @@
 // The listing of one body, before its length and the lent space are looked at.
 ghost use mathlib.Core.Path.{_≡_};
-ghost use Prim.Native.Nat.{_≤_};
+ghost use Prim.Native.Nat.{_*_, _≤_};
 ghost use lib.ListN.{length, replicate};
+ghost use Rattle.limits.specs.Limits.{bodyLimit, listingLimit};
 ghost use Rattle.spec_body.specs.Decode.{decodeBody};
 ghost use Rattle.spec_listing.specs.Listing.{listDecoded};
 ghost use Rattle.lists.specs.Choice.{pick};
-ghost use Rattle.body_lines.specs.Parts.{optionsOf, editionOf};
+ghost use Rattle.listing.specs.Parts.{optionsOf};
+ghost use Rattle.spec_inputs.specs.Context.{contextFrom};
 ghost use Rattle.listing.specs.Bodies.{Written};
-use body_lines::Lines;
-use labels::collect::Collected;
+use crate::body_lines::Lines;
+use list_labels::collect::Collected;
 
 // The next position and the label entries needed; or where the body is refused: 13, 14, 3.
 pub enum Part {
@@ -25,12 +27,12 @@ fn entries_for(labels: bool, n: usize) -> usize
     if labels { n } else { 0 }
 }
 
-// With marks that are lent and zero.
-fn list_marked(
+// With flags that are lent and zero.
+fn list_flagged(
     offsets: bool,
     labels: bool,
     texts: bool,
-    source: &[u8],
+    sheet: &[u8],
     types: &[[u8; 8]; 256],
     ops: &[[usize; 4]; 256],
     last: usize,
@@ -40,27 +42,27 @@ fn list_marked(
     indent: &[u8],
     out: &mut [u8],
     from: usize,
-    marks: &mut [u8],
+    flags: &mut [u8],
 ) -> Part
-    requires { ⌜ now marks ≡ replicate (length (now marks)) 0 ⌝ }
-    requires { ⌜ (length (now s) ≤ length (now marks)) × (length (now s) ≤ 65536) × (length (now indent) ≤ 2) × («from» ≤ 2097152) ⌝ }
-    ensures { λ r. ⌜ Written (listDecoded (optionsOf offsets labels texts) (editionOf (now (source .entry)) (now (types .entry)) (now (ops .entry)) (now (bytes .entry)) (now (ends .entry))) (now (indent .entry)) (decodeBody (now (types .entry)) last (now (s .entry)))) (now (out .entry)) «from» (now (out .exit)) r ⌝ }
+    requires { ⌜ now flags ≡ replicate (length (now flags)) 0 ⌝ }
+    requires { ⌜ (length (now s) ≤ length (now flags)) × (length (now s) ≤ bodyLimit) × (length (now indent) ≤ 2) × («from» ≤ 2 * listingLimit) ⌝ }
+    ensures { λ r. ⌜ Written (listDecoded (optionsOf offsets labels texts) (contextFrom (now (sheet .entry)) (now (types .entry)) (now (ops .entry)) (now (bytes .entry)) (now (ends .entry))) (now (indent .entry)) (decodeBody (now (types .entry)) last (now (s .entry)))) (now (out .entry)) «from» (now (out .exit)) r ⌝ }
 {
-    let c = labels::collect::collect_label_offsets(source, types, ops, last, s, marks);
+    let c = list_labels::collect::collect_label_offsets(sheet, types, ops, last, s, flags);
     match c {
         Collected::Entries(n) => {
-            let l = body_lines::list_lines(
+            let l = crate::body_lines::list_lines(
                 offsets,
                 labels,
                 texts,
-                source,
+                sheet,
                 types,
                 ops,
                 last,
                 bytes,
                 ends,
                 s,
-                marks,
+                flags,
                 indent,
                 out,
                 from,
@@ -75,21 +77,24 @@ fn list_marked(
     }
 }
 
+// The most bytes of a body that takes small flags.
+const SMALL_BODY: usize = 4096;
+
 // Zeros. No contract: the callers clear what they take.
-fn few_marks() -> [u8; 4096] {
-    [0; 4096]
+fn few_flags() -> [u8; SMALL_BODY] {
+    [0; SMALL_BODY]
 }
 
-fn all_marks() -> [u8; 65536] {
-    [0; 65536]
+fn all_flags() -> [u8; limits::BODY_LIMIT] {
+    [0; limits::BODY_LIMIT]
 }
 
-// Lists a body at position `from`. A small body takes small marks, which cost less to clear.
+// Lists a body at position `from`. A small body takes small flags, which cost less to clear.
 pub fn list_body(
     offsets: bool,
     labels: bool,
     texts: bool,
-    source: &[u8],
+    sheet: &[u8],
     types: &[[u8; 8]; 256],
     ops: &[[usize; 4]; 256],
     last: usize,
@@ -100,17 +105,17 @@ pub fn list_body(
     out: &mut [u8],
     from: usize,
 ) -> Part
-    requires { ⌜ (length (now s) ≤ 65536) × (length (now indent) ≤ 2) × («from» ≤ 2097152) ⌝ }
-    ensures { λ r. ⌜ Written (listDecoded (optionsOf offsets labels texts) (editionOf (now (source .entry)) (now (types .entry)) (now (ops .entry)) (now (bytes .entry)) (now (ends .entry))) (now (indent .entry)) (decodeBody (now (types .entry)) last (now (s .entry)))) (now (out .entry)) «from» (now (out .exit)) r ⌝ }
+    requires { ⌜ (length (now s) ≤ bodyLimit) × (length (now indent) ≤ 2) × («from» ≤ 2 * listingLimit) ⌝ }
+    ensures { λ r. ⌜ Written (listDecoded (optionsOf offsets labels texts) (contextFrom (now (sheet .entry)) (now (types .entry)) (now (ops .entry)) (now (bytes .entry)) (now (ends .entry))) (now (indent .entry)) (decodeBody (now (types .entry)) last (now (s .entry)))) (now (out .entry)) «from» (now (out .exit)) r ⌝ }
 {
-    if s.len() <= 4096 {
-        let mut marks = few_marks();
-        slices::write::clear(&mut marks);
-        return list_marked(
+    if s.len() <= SMALL_BODY {
+        let mut flags = few_flags();
+        slices::write::clear(&mut flags);
+        return list_flagged(
             offsets,
             labels,
             texts,
-            source,
+            sheet,
             types,
             ops,
             last,
@@ -120,16 +125,16 @@ pub fn list_body(
             indent,
             out,
             from,
-            &mut marks,
+            &mut flags,
         );
     }
-    let mut marks = all_marks();
-    slices::write::clear(&mut marks);
-    list_marked(
+    let mut flags = all_flags();
+    slices::write::clear(&mut flags);
+    list_flagged(
         offsets,
         labels,
         texts,
-        source,
+        sheet,
         types,
         ops,
         last,
@@ -139,6 +144,6 @@ pub fn list_body(
         indent,
         out,
         from,
-        &mut marks,
+        &mut flags,
     )
 }

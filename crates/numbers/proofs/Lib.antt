@@ -1,2 +1,9 @@
 pub mod ByteSums
 pub mod WidthLaws
+pub mod AnswerLaws
+pub mod RoomLaws
+pub mod DecimalTurns
+pub mod HexTurns
+pub mod NanLaws
+pub mod PlaceLaws
+pub mod ReadLaws

@@ -1,3 +1,10 @@
-// Numbers as bytes: little-endian, and signed ones by their bits.
-pub mod io;
-pub mod signed;
+// Numbers in bytes, read from text and printed, and doubles by their bits.
+pub mod io; // little-endian numbers (io.rs)
+pub mod parse; // numbers read as Rust's u32, i32 and hex
+pub mod print_decimal; // numbers printed in decimal
+pub mod print_double; // a double as it is listed
+pub mod print_hex; // numbers printed in hex
+pub mod read_double; // a double as it is read
+pub mod signed; // two's complement, and sums that wrap
+pub mod value; // the f64 of 64 bits
+pub mod whole; // which doubles are whole

@@ -1,8 +1,8 @@
 // Assembling a recorded text: its input holds the string table and how many label entries are lent, too.
 ghost use Prim.Native.Nat.{_+_, _≤_};
 ghost use lib.ListN.{length};
+use crate::parts::Performed;
 use numbers::io::read_le;
-use replay_cases::parts::Performed;
 use slices::part::part_of;
 
 // What a word of a label entry holds before a call.

@@ -44,12 +44,15 @@
 // a sheet over 16,384 bytes, an input or expected output over 65,536 bytes, a room over 8,192 words or 65,536 bytes, more
 // than 64 strings or label entries, or a case behind the first 1,000,000.
 mod assembling;
+mod case;
+mod lent;
 mod operations;
+mod parts;
 
+use crate::case::Head;
+use crate::case::HeadRead;
+use crate::parts::Performed;
 use libc::STDOUT_FILENO;
-use replay_cases::case::Head;
-use replay_cases::case::HeadRead;
-use replay_cases::parts::Performed;
 use slices::part::part_of;
 
 // Why the replay stops at a case.
@@ -75,13 +78,13 @@ const MOST_CASES: u64 = 1000000;
 
 // Runs a case whose parts have been read, and compares. `lent` has as many bytes as the case lends.
 fn compared(head: Head, sheet: &[u8], input: &[u8], expected: &[u8], lent: &mut [u8]) -> Turn {
-    replay_cases::lent::fill(lent, replay_cases::lent::MARK);
+    crate::lent::fill(lent, crate::lent::FILL);
     match operations::perform(head.operation, sheet, input, lent) {
         Performed::Answered(a) => {
-            if !replay_cases::parts::same_answer(head, a) {
+            if !crate::parts::same_answer(head, a) {
                 return Turn::Stops(Stop::Differs);
             }
-            if !replay_cases::lent::is_left(lent, expected, a.number) {
+            if !crate::lent::is_left(lent, expected, a.number) {
                 return Turn::Stops(Stop::Differs);
             }
             Turn::Agrees(sheet.len())
@@ -93,7 +96,7 @@ fn compared(head: Head, sheet: &[u8], input: &[u8], expected: &[u8], lent: &mut 
 
 // Lends as many bytes as the case says, and compares.
 fn lend(head: Head, sheet: &[u8], input: &[u8], expected: &[u8]) -> Turn {
-    let size = replay_cases::parts::lent_size(head.operation, head.room);
+    let size = crate::parts::lent_size(head.operation, head.room);
     if 65536 < size {
         return Turn::Stops(Stop::Broken);
     }
@@ -114,7 +117,7 @@ fn try_case(
     input: &mut [u8],
     expected: &mut [u8],
 ) -> Turn {
-    if !replay_cases::case::read_parts(head, sheet, input, expected) {
+    if !crate::case::read_parts(head, sheet, input, expected) {
         return Turn::Stops(Stop::Broken);
     }
     lend(
@@ -127,7 +130,7 @@ fn try_case(
 
 // The next case.
 fn next_case(used: usize, sheet: &mut [u8], input: &mut [u8], expected: &mut [u8]) -> Turn {
-    match replay_cases::case::read_head() {
+    match crate::case::read_head() {
         HeadRead::Is(head) => try_case(head, used, sheet, input, expected),
         HeadRead::End => Turn::Stops(Stop::End),
         HeadRead::Broken => Turn::Stops(Stop::Broken),
@@ -136,7 +139,7 @@ fn next_case(used: usize, sheet: &mut [u8], input: &mut [u8], expected: &mut [u8
 
 // Behind the last case that may be there.
 fn last_stop() -> Stop {
-    if replay_cases::case::at_end() {
+    if crate::case::at_end() {
         Stop::End
     } else {
         Stop::Broken

@@ -1,10 +1,10 @@
 // The operations by number: each has its function of the desk called on the parts of a case.
 use crate::assembling::assemble;
-use replay_cases::lent::bytes_of;
-use replay_cases::lent::words_of;
-use replay_cases::parts::Performed;
-use replay_cases::parts::perform_part;
-use replay_cases::parts::written;
+use crate::lent::bytes_of;
+use crate::lent::words_of;
+use crate::parts::Performed;
+use crate::parts::perform_part;
+use crate::parts::written;
 use slices::write::put_bytes;
 
 // Has the desk do an operation on lent bytes.

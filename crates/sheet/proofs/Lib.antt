@@ -1,3 +1,10 @@
+pub mod AnswerLaws
+pub mod KeyedLaws
+pub mod TypesLoop
+pub mod LineLaws
+pub mod FilterLaws
+pub mod StoreLaws
 pub mod OpsLoop
 pub mod SheetAnswers
 pub mod UnderSheet
+pub mod NameWalk

@@ -11,8 +11,8 @@ use Rattle.spec_sheet.specs.Sheet.{accepted, onLine, OpsRead, opsFrom, fill, ab
 use Rattle.spec_sheet.specs.Sheet.OpsRead.{allRead, faultAfter}
 use Rattle.spec_sheet.proofs.OpLaws.{line-good}
 use Rattle.spec_sheet.proofs.FillLaws.{fill-more, above-more, accepted-is}
-use Rattle.sheet_rows.specs.Rows.{turnOf, typesStored, infosStored}
-use Rattle.sheet_line.specs.declared.scan.Step.the-variants.{Next, Off}
+use Rattle.sheet.specs.Rows.{turnOf, typesStored, infosStored}
+use Rattle.sheet.specs.declared.scan.Step.the-variants.{Next, Off}
 
 -- i lines were read, the tables hold them, and those from `at` on complete them
 pub record Going (s : List ℕ) (types infos : List (List ℕ)) (from count at least i : ℕ) : Type 0 where

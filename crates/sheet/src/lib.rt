@@ -1,2 +1,8 @@
-// The opcode sheet: its text is read once into tables by opcode, which every later layer is lent.
-pub mod opcode;
+// The opcode sheet (opcode.rs).
+pub mod line; // one opcode line
+pub mod name_filter; // a filter that tells most new names at one look
+pub mod name_index; // the opcode of a name, by an index of all names
+pub mod opcode; // a sheet's text read into tables by opcode
+pub mod operand_types; // the twelve types: widths, families, kinds
+pub mod rows; // an opcode line stored, a name looked up
+pub mod scan; // the parts of a line

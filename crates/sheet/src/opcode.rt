@@ -1,6 +1,6 @@
 // An opcode sheet read into tables by opcode. The type codes are an array of 256 rows of eight; beside them each opcode
 // has a row with its operand count, its jump mark, and the start and length of its name in the sheet's text. A length of
-// 0 marks a gap, "<invalid>" in the Rust.
+// 0 filter a gap, "<invalid>" in the Rust.
 ghost use mathlib.Core.Path.{_≡_};
 ghost use Prim.Native.Nat.{ℕ};
 ghost use mathlib.Core.List.{List, []};
@@ -8,8 +8,8 @@ ghost use Rattle.spec_sheet.specs.Line.{Op};
 ghost use Rattle.spec_sheet.specs.Sheet.{opsFrom, noTypeRows, noInfoRows, typeRows, infoRows, sheetAt, sheetOf};
 ghost use Rattle.spec_sheet.specs.Sheet.OpsRead.{allRead};
 ghost use Rattle.sheet.specs.Sheets.{opsOf, sheetAnswer, typesIn, infosIn};
-use sheet_line::scan::Step;
-use sheet_rows::rows::store_line;
+use crate::rows::store_line;
+use crate::scan::Step;
 
 // The opcode lines: one more than the largest opcode and the place behind them, or how many were before a malformed one.
 pub enum Ops {
@@ -29,12 +29,12 @@ fn read_ops(
     ensures { λ r. ⌜ r ≡ opsOf (opsFrom count (now (s .entry)) from 0 []) ⌝ }
     ensures { λ _. ⌜ ((os : List Op) (b : ℕ) → opsFrom count (now (s .entry)) from 0 [] ≡ allRead os b → (now (types .exit) ≡ typeRows os) × (now (ops .exit) ≡ infoRows os)) ⌝ }
 {
-    let mut marks = [0u64; 64];
+    let mut filter = [0u64; 64];
     let mut at = from;
     let mut least: usize = 0;
     let mut i: usize = 0;
     while i < count {
-        let l = store_line(s, at, least, types, ops, &mut marks);
+        let l = store_line(s, at, least, types, ops, &mut filter);
         let Step::Next(code, b) = l else {
             return Ops::FaultAfter(i);
         };
@@ -72,11 +72,11 @@ pub fn sheet_at(
     ensures { λ _. ⌜ now (ops .exit) ≡ infosIn (sheetAt (now (s .entry)) at) ⌝ }
 {
     reset(types, ops);
-    let v = sheet_line::scan::keyed_at(s, at, b"version=", 4294967295, b"\n");
+    let v = crate::scan::keyed_at(s, at, b"version=", 4294967295, b"\n");
     let Step::Next(version, a) = v else {
         return Sheet::Malformed(1);
     };
-    let n = sheet_line::scan::keyed_at(s, a, b"count=", 256, b"\n");
+    let n = crate::scan::keyed_at(s, a, b"count=", 256, b"\n");
     let Step::Next(count, b) = n else {
         return Sheet::Malformed(2);
     };

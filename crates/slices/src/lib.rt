@@ -1,5 +1,6 @@
-// Lent slices of bytes: the one writer, the one comparison and the one way to take a part that every layer uses.
-pub mod compare;
-pub mod part;
-pub mod search;
-pub mod write;
+// Writing, comparing, searching and clearing lent slices.
+pub mod clearing; // lent words and label entries set to 0
+pub mod compare; // equal bytes
+pub mod part; // a part of a slice
+pub mod search; // what a search answers
+pub mod write; // bytes written where they fit, and counted

@@ -66,7 +66,7 @@ encoding-bytes types last h (a-record {words} {os} k o d) =
 pub encoded-bytes : (types : List (List ℕ)) (last : ℕ) (words bs : List ℕ) → last ≤ 255 → encodeRecords types last words ≡ encoded bs → Bytes bs
 encoded-bytes types last words bs h e = below-at (omega arith) (encoding-bytes types last h (encoded-records types last words bs e))
 
--- as many records come back as there were, and their lengths are those of the bytes
+-- as many records are decoded as were encoded, and their lengths are those of the bytes
 recoded-from : (n : ℕ) (types : List (List ℕ)) (words : List ℕ) (at : ℕ) → length (recodedFrom n types words at) ≡ n
 unfolding recodedFrom
 recoded-from zero types words at = refl

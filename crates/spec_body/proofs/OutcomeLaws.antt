@@ -16,10 +16,13 @@ use Rattle.spec_body.specs.Decode.{Decoded, decodeBody}
 use Rattle.spec_body.specs.Decode.Decoded.{decoded, beyond, cut}
 use Rattle.spec_body.specs.Encode.{Encoded, encodeRecords}
 use Rattle.spec_body.specs.Encode.Encoded.{encoded, refused}
-use Rattle.spec_body.specs.Function.{inArea, bodyOf, sizeOf, offsetOf}
+use Rattle.spec_body.specs.Function.{inArea, functionBody, functionSize, functionOffset}
 use Rattle.spec_body.specs.Recode.{recoded}
-use Rattle.spec_body.specs.Operation.{bodyLimit, Outcome, decodeOutcome, underSheet, decode, functionOutcome, decodeFunction, encodeOutcome, encode}
-use Rattle.spec_body.specs.Operation.Outcome.{result, refusedWith}
+use Rattle.spec_body.specs.Operation.{decodeOutcome, decode, functionOutcome, decodeFunction, encodeOutcome, encode}
+use Rattle.limits.specs.Limits.{bodyLimit}
+use Rattle.spec_answers.specs.Outcome.{Outcome, measured}
+use Rattle.spec_inputs.specs.Inputs.{underSheet}
+use Rattle.spec_answers.specs.Outcome.Outcome.{result, refusedWith}
 use Rattle.spec_body.proofs.DecodeLaws.{body-whole, length-join}
 use Rattle.spec_body.proofs.StartLaws.{record-count}
 use Rattle.spec_body.proofs.RowLaws.{GoodRows, good-length}
@@ -41,7 +44,7 @@ decoded-result (cut at) words n e then = not-refused e
 
 pub encoded-result : {P : Type 0} (d : Encoded) (bs : List ℕ) (n : ℕ) → encodeOutcome d ≡ result bs n
     → (d ≡ encoded bs → length bs ≡ n → length bs ≤ bodyLimit → P) → P
-unfolding encodeOutcome
+unfolding encodeOutcome measured
 encoded-result (encoded cs) bs n e then =
     by-leb (length cs) bodyLimit
     (λ h. let q : result cs (length cs) ≡ result bs n = rw (le-ltb bodyLimit (length cs) h) at e in
@@ -52,7 +55,7 @@ encoded-result (encoded cs) bs n e then =
 encoded-result (refused a b c) bs n e then = not-refused e
 
 pub encode-outcome : (bs : List ℕ) → length bs ≤ bodyLimit → encodeOutcome (encoded bs) ≡ result bs (length bs)
-unfolding encodeOutcome
+unfolding encodeOutcome measured
 encode-outcome bs h = rw (le-ltb bodyLimit (length bs) h)
 
 -- what is done under a text has a sheet that was read
@@ -94,18 +97,18 @@ in-area : (t : Bool) (id : ℕ) {words : List ℕ} {n : ℕ} (o : Outcome) → p
 in-area true id o e = e
 in-area false id o e = not-refused e
 
-body-short : (functions area : List ℕ) (base id : ℕ) → sizeOf functions id ≤ bodyLimit → length (bodyOf functions area base id) ≤ bodyLimit
-body-short functions area base id h = omega (arith, length-take (sizeOf functions id) (drop (offsetOf functions id - base) area))
+body-short : (functions area : List ℕ) (base id : ℕ) → functionSize functions id ≤ bodyLimit → length (functionBody functions area base id) ≤ bodyLimit
+body-short functions area base id h = omega (arith, length-take (functionSize functions id) (drop (functionOffset functions id - base) area))
 
 pub function-body : (text functions area : List ℕ) (base id : ℕ) (words : List ℕ) (n : ℕ) → decodeFunction text functions area base id ≡ result words n
-    → decode text (bodyOf functions area base id) ≡ result words n
+    → decode text (functionBody functions area base id) ≡ result words n
 unfolding decodeFunction functionOutcome underSheet
 function-body text functions area base id words n e =
     under-sheet (sheetOf text) _ words n e λ sh at r d.
     let q = in-area (inArea functions area base id) id _ d in
-    by-leb (sizeOf functions id) bodyLimit
-    (λ h. decode-is text (bodyOf functions area base id) (body-short functions area base id h) ∙ rw r (rw (le-ltb bodyLimit (sizeOf functions id) h) at q))
-    (λ h. let x = rw (lt-ltb bodyLimit (sizeOf functions id) h) at q in not-refused x)
+    by-leb (functionSize functions id) bodyLimit
+    (λ h. decode-is text (functionBody functions area base id) (body-short functions area base id h) ∙ rw r (rw (le-ltb bodyLimit (functionSize functions id) h) at q))
+    (λ h. let x = rw (lt-ltb bodyLimit (functionSize functions id) h) at q in not-refused x)
 
 -- the tables of a sheet that is read from a text are good
 pub record GoodTable (types : List (List ℕ)) (last : ℕ) : Type 0 where
@@ -124,7 +127,7 @@ module _ (text : List ℕ) (good : GoodSheet text) where
       let g = good sh at r in
       rw (r, sym j, reencoded (typeRows (sh .opcodes)) (largest (sh .opcodes)) body rs (g .rows) (g .small) b f) (encode-outcome body h)
 
-  -- what was encoded is decoded to the records as they come back, as many as there were
+  -- what was encoded is decoded to the recoded records, as many as there were
   pub encode-decode : (sh : Sheet) (at : ℕ) (words bs : List ℕ) (n : ℕ) → sheetOf text ≡ sheet sh at → encode text words ≡ result bs n
       → decode text bs ≡ result (join (recoded (typeRows (sh .opcodes)) words)) (length words / 20)
   unfolding encode underSheet decodeOutcome

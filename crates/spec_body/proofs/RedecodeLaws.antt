@@ -18,13 +18,13 @@ use Rattle.spec_numbers.proofs.ByteLaws.{le-leBytes, length-leBytes}
 use Rattle.spec_sheet.specs.Types.{widthOf, kindOf}
 use Rattle.spec_sheet.proofs.OpLaws.{TypeCodes}
 use Rattle.spec_sheet.proofs.OpLaws.TypeCodes.{none, one}
-use Rattle.spec_body.specs.Record.{sumBy, widths, lengthOf, pairs, recordOf, join, recordWords}
+use Rattle.spec_body.specs.Record.{sumBy, lengthOf, pairs, recordOf, join, recordWords, totalWidth}
 use Rattle.spec_body.specs.Decode.{decodeBody, rowAt}
 use Rattle.spec_body.specs.Decode.Decoded.{decoded}
 use Rattle.spec_body.specs.Encode.{kindWidths, goodPairs, goodShape, encodeOperand, encodeOperands, encodeRecords}
 use Rattle.spec_body.specs.Encode.Operands.{bytes}
 use Rattle.spec_body.specs.Encode.Encoded.{encoded}
-use Rattle.spec_body.specs.Recode.{numberOf, writtenBits, recodedPairs, recodedRecord, recodedFrom, recoded}
+use Rattle.spec_body.specs.Recode.{writtenBits, recodedPairs, recodedRecord, recodedFrom, recoded, writtenNumber}
 use Rattle.spec_body.proofs.DecodeLaws.{Decoding, body-decoded}
 use Rattle.spec_body.proofs.DecodeLaws.Decoding.{ended, more}
 use Rattle.spec_body.proofs.OperandLaws.{no-zero, kept, kind-width, pair-bound, written-fits}
@@ -50,7 +50,7 @@ operands-written (one {c} {cs} l h t) (suc m) n k words os q g e =
     rw (sym y)
     (an-operand l w (written-fits c l h _ _ v (used-pair m words (length cs) g) w) (operands-written t m n (k + 1) (drop 2 words) ms (omega arith) (pairs-behind m words (length cs) g) x))
 
-written-length : {cs words os : List ℕ} → Written cs words os → length os ≡ widths cs
+written-length : {cs words os : List ℕ} → Written cs words os → length os ≡ totalWidth cs
 unfolding sumBy
 written-length no-operand = refl
 written-length (an-operand {c} {v} {cs} {words} {os} l e h w) = omega (arith, length-append (leBytes (widthOf c) v) os, length-leBytes (widthOf c) v, written-length w)
@@ -70,7 +70,7 @@ module _ (s : List ℕ) where
 
   written-read : {cs words os : List ℕ} → Written cs words os → (n p : ℕ) (post : List ℕ) → drop p s ≡ os ++ post
       → pairs (cs ++ replicate n 0) s p ≡ recodedPairs (cs ++ replicate n 0) words
-  unfolding pairs recodedPairs writtenBits numberOf
+  unfolding pairs recodedPairs writtenBits writtenNumber
   written-read {words = words} no-operand n p post e = zeros-read n p words
   written-read (an-operand {c} {v} {cs} {words} {os} l w h r) n p post e =
       let q : drop p s ≡ leBytes (widthOf c) v ++ (os ++ post) = e ∙ append-assoc (leBytes (widthOf c) v) os post in
@@ -91,7 +91,7 @@ module _ (s : List ℕ) where
     row-written =
         operands-written (g .types) 8 (8 - length (g .codes)) 1 (drop 4 r) os (omega (arith, g .few)) (shape-pairs types last r os o g) (rw (g .is-row) at (o .operands))
 
-    operands-length : length os ≡ widths (getD types (getD r 1 0) [])
+    operands-length : length os ≡ totalWidth (getD types (getD r 1 0) [])
     operands-length = written-length row-written ∙ sym (good-widths g)
 
     record-read : recordOf (rowAt types s at) s at ≡ recodedRecord (getD types (getD r 1 0) []) r at
@@ -145,14 +145,14 @@ redecoded types last words bs g l e =
     let d = encoded-records types last words bs e in
     body-decoded types last bs (encoding-decoded bs types last g l d (length words / recordWords) 0 (encoding-whole d) refl)
 
--- the records of a decoded body come back as they are
+-- the records of a decoded body round-trip
 pub recoded-back : (types : List (List ℕ)) (last : ℕ) (s : List ℕ) (rs : List (List ℕ)) → GoodRows types → last ≤ 255 → Bytes s
     → decodeBody types last s ≡ decoded rs → recoded types (join rs) ≡ rs
 recoded-back types last s rs g l h e = cc (sym (redecoded types last (join rs) s g l (reencoded types last s rs g l h e)) ∙ e)
 
--- bits of a type's own kind come back as they are
+-- bits of a type's own kind round-trip
 pub kept-bits : (c : ℕ) → 0 < c → c ≤ 12 → (bits : ℕ) → bits < 256 ^ widthOf c → writtenBits c (kindOf c) bits ≡ bits
-unfolding writtenBits numberOf
+unfolding writtenBits writtenNumber
 kept-bits c l h bits b = rw (no-zero c l, kept c l h bits b)
 
 -- the kinds of the first pairs are those of type codes

@@ -17,7 +17,7 @@ use Rattle.spec_numbers.proofs.ByteLaws.{leBytes-le, le-bound}
 use Rattle.spec_sheet.specs.Types.{widthOf, kindOf}
 use Rattle.spec_sheet.proofs.OpLaws.{TypeCodes}
 use Rattle.spec_sheet.proofs.OpLaws.TypeCodes.{none, one}
-use Rattle.spec_body.specs.Record.{sumBy, widths, lengthOf, countOf, pairs, recordOf, join}
+use Rattle.spec_body.specs.Record.{sumBy, lengthOf, countOf, pairs, recordOf, join, totalWidth}
 use Rattle.spec_body.specs.Decode.{decodeBody, rowAt}
 use Rattle.spec_body.specs.Decode.Decoded.{decoded}
 use Rattle.spec_body.specs.Encode.{goodPair, goodPairs, goodShape, prependBytes, encodeOperands, encodeRecords}
@@ -62,13 +62,13 @@ module _ (s : List ℕ) (h : Bytes s) where
       let g : goodPair (kindOf c) (le (part s p (widthOf c))) ≡ true = typed-pair c l k _ (part-below s p (widthOf c) h) in
       pairs-used m (pairs (c ∷ cs ++ replicate n 0) s p) (length cs) ∙ both-yes _ _ g (pairs-good t m n (p + widthOf c) (omega arith))
 
-  operands-back : {cs : List ℕ} → TypeCodes cs → (n p k : ℕ) → p + widths cs ≤ length s
-      → encodeOperands (cs ++ replicate n 0) (pairs (cs ++ replicate n 0) s p) k ≡ bytes (part s p (widths cs))
+  operands-back : {cs : List ℕ} → TypeCodes cs → (n p k : ℕ) → p + totalWidth cs ≤ length s
+      → encodeOperands (cs ++ replicate n 0) (pairs (cs ++ replicate n 0) s p) k ≡ bytes (part s p (totalWidth cs))
   unfolding pairs sumBy prependBytes
   operands-back none n p k g = operands-none n _ k
   operands-back (one {c} {cs} l m t) n p k g =
       operands-more _ _ k c _ l (kept c l m (le (part s p (widthOf c))) (part-below s p (widthOf c) h))
-      ∙ rw (part-back s p (widthOf c) h (omega arith), operands-back t n (p + widthOf c) (k + 1) (omega arith), part-add s p (widthOf c) (widths cs))
+      ∙ rw (part-back s p (widthOf c) h (omega arith), operands-back t n (p + widthOf c) (k + 1) (omega arith), part-add s p (widthOf c) (totalWidth cs))
 
   -- so is the record
   module _ (types : List (List ℕ)) (last at : ℕ) (g : GoodRow (rowAt types s at)) (k : getD s at 0 ≤ last) (l : at + lengthOf (rowAt types s at) ≤ length s) where
@@ -80,11 +80,11 @@ module _ (s : List ℕ) (h : Bytes s) where
         rw (good-count g, g .is-row) (pairs-good (g .types) 8 (8 - length (g .codes)) (at + 1) (omega (arith, g .few))) in
         both-yes _ _ f p
 
-    operands-good : encodeOperands (rowAt types s at) (pairs (rowAt types s at) s (at + 1)) 1 ≡ bytes (part s (at + 1) (widths (rowAt types s at)))
+    operands-good : encodeOperands (rowAt types s at) (pairs (rowAt types s at) s (at + 1)) 1 ≡ bytes (part s (at + 1) (totalWidth (rowAt types s at)))
     operands-good =
         rw (good-widths g, g .is-row) (operands-back (g .types) (8 - length (g .codes)) (at + 1) 1 (omega (arith, good-widths g)))
 
-    record-back : OneEncoded types last (recordOf (rowAt types s at) s at) (part s (at + 1) (widths (rowAt types s at)))
+    record-back : OneEncoded types last (recordOf (rowAt types s at) s at) (part s (at + 1) (totalWidth (rowAt types s at)))
     record-back = record { shape = shape-good; known = k; counted = refl; operands = operands-good }
 
   -- the bytes of an instruction, and those behind it
@@ -98,7 +98,7 @@ module _ (s : List ℕ) (h : Bytes s) where
   decoding-encoded types last g l (ended e) = rw (drop-of-length-le s e) (no-record refl)
   decoding-encoded types last g l {at} (more a k b d) =
       let row : GoodRow (rowAt types s at) = g (getD s at 0) (omega arith) in
-      rw (instruction-split at (widths (rowAt types s at)) a)
+      rw (instruction-split at (totalWidth (rowAt types s at)) a)
       (one-more types last (length-record (rowAt types s at) s at (good-length row)) (record-back types last at row k b) (decoding-encoded types last g l d))
 
 -- the first round trip

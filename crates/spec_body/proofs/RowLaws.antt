@@ -7,7 +7,7 @@ use lib.ListN.{length, getD, replicate, length-append, length-replicate}
 use Rattle.spec_sheet.specs.Types.{widthOf}
 use Rattle.spec_sheet.proofs.OpLaws.{TypeCodes}
 use Rattle.spec_sheet.proofs.OpLaws.TypeCodes.{none, one}
-use Rattle.spec_body.specs.Record.{sumBy, widths, countOf, oneFor}
+use Rattle.spec_body.specs.Record.{sumBy, countOf, oneFor, totalWidth}
 use Rattle.spec_body.proofs.OperandLaws.{no-zero}
 
 -- eight codes: those of at most eight types, and zeros behind them
@@ -33,7 +33,7 @@ sum-codes f [] n e = sum-zeros f n e
 sum-codes f (c ∷ cs) n e = ap (λ (m : ℕ). f c + m) (sum-codes f cs n e)
 
 module _ (cs : List ℕ) (n : ℕ) where
-  pub row-widths : widths (cs ++ replicate n 0) ≡ widths cs
+  pub row-widths : totalWidth (cs ++ replicate n 0) ≡ totalWidth cs
   unfolding widthOf
   row-widths = sum-codes widthOf cs n refl
 
@@ -49,7 +49,7 @@ module _ {row : List ℕ} (g : GoodRow row) where
   pub good-length : length row ≡ 8
   good-length = omega (arith, ap length (g .is-row), length-append (g .codes) (replicate (8 - length (g .codes)) 0), length-replicate {A = ℕ} (8 - length (g .codes)) 0, g .few)
 
-  pub good-widths : widths row ≡ widths (g .codes)
+  pub good-widths : totalWidth row ≡ totalWidth (g .codes)
   good-widths = ap (sumBy widthOf) (g .is-row) ∙ row-widths (g .codes) (8 - length (g .codes))
 
   pub good-count : countOf row ≡ length (g .codes)

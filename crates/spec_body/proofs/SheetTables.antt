@@ -12,7 +12,7 @@ use Rattle.spec_sheet.proofs.SheetLaws.{whole-sheet}
 use Rattle.spec_body.specs.Record.{join}
 use Rattle.spec_body.specs.Recode.{recoded}
 use Rattle.spec_body.specs.Operation.{decode, encode}
-use Rattle.spec_body.specs.Operation.Outcome.{result}
+use Rattle.spec_answers.specs.Outcome.Outcome.{result}
 use Rattle.spec_body.proofs.OutcomeLaws as outcome
 
 pub good-sheet : (text : List ℕ) → outcome.GoodSheet text

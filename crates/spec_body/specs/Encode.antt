@@ -9,8 +9,8 @@ use Rattle.spec_numbers.specs.LittleEndian.{leBytes}
 use Rattle.spec_numbers.specs.TwosComplement.{extend8}
 use Rattle.spec_numbers.specs.Parse.{Parsed}
 use Rattle.spec_numbers.specs.Parse.Parsed.{is, bad}
-use Rattle.spec_sheet.specs.Types.{widthOf, familyOf}
-use Rattle.spec_body.specs.Record.{countOf, recordWords}
+use Rattle.spec_sheet.specs.Types.{widthOf, familyOf, stringFamily, addr8, double}
+use Rattle.spec_body.specs.Record.{countOf, opcodeOf, operandsOf, pairsOf, recordWords}
 
 -- the bytes of a kind: U8, U16, U32, I8, I32, F64
 abbrev pub kindWidths : List ℕ
@@ -29,7 +29,7 @@ goodPairs (suc n) count words =
 
 -- a record's shape: "bad if its count exceeds 8, a kind exceeds 5, bits exceed the kind or an unused word isn't 0"
 unfoldable pub goodShape : List ℕ → Bool
-goodShape r = both (leb (getD r 3 0) 8) (goodPairs 8 (getD r 3 0) (drop 4 r))
+goodShape r = both (leb (operandsOf r) 8) (goodPairs 8 (operandsOf r) (pairsOf r))
 
 -- `write_operand`: the little-endian number of an operand of a type, from a value's kind and bits, or that it doesn't fit.
 -- An unsigned value goes into a register, number or string id that is wide enough
@@ -52,9 +52,9 @@ encodeDouble kind bits = pick (eqb kind 5) (is bits) bad
 
 unfoldable pub encodeOperand : ℕ → ℕ → ℕ → Parsed
 encodeOperand code kind bits =
-    pick (leb (familyOf code) 3) (encodeUnsigned code kind bits)
-    (pick (eqb code 9) (encodeAddr8 kind bits)
-    (pick (eqb code 12) (encodeDouble kind bits) (encodeSigned32 kind bits)))
+    pick (leb (familyOf code) stringFamily) (encodeUnsigned code kind bits)
+    (pick (eqb code addr8) (encodeAddr8 kind bits)
+    (pick (eqb code double) (encodeDouble kind bits) (encodeSigned32 kind bits)))
 
 -- the bytes of a record's operands, or the first that doesn't fit, counted from n
 pub data Operands : Type 0 where
@@ -92,11 +92,11 @@ withOperands opcode i (misfit q) rest = refused 15 i q
 -- the record i, which is r, and those behind it: "by record 15 for its shape, 13, 5, then 15 by operand"
 unfoldable pub encodeRecord : List (List ℕ) → ℕ → ℕ → List ℕ → Encoded → Encoded
 encodeRecord types last i r rest =
-    let row = getD types (getD r 1 0) [] in
-    let operands = withOperands (getD r 1 0) i (encodeOperands row (drop 4 r) 1) rest in
+    let row = getD types (opcodeOf r) [] in
+    let operands = withOperands (opcodeOf r) i (encodeOperands row (pairsOf r) 1) rest in
     pick (goodShape r)
-    (pick (ltb last (getD r 1 0)) (refused 13 i 0)
-    (pick (eqb (getD r 3 0) (countOf row)) operands (refused 5 i 0)))
+    (pick (ltb last (opcodeOf r)) (refused 13 i 0)
+    (pick (eqb (operandsOf r) (countOf row)) operands (refused 5 i 0)))
     (refused 15 i 0)
 
 -- the records from index i on, at most f of them; "a slice that ends inside a record is 15 at that index"

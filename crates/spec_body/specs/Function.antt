@@ -11,21 +11,21 @@ use Rattle.lists.specs.Scan.{part}
 abbrev pub functionCount : List ℕ → ℕ
 functionCount functions = length functions / 3
 
-abbrev pub offsetOf : List ℕ → ℕ → ℕ
-offsetOf functions id = getD functions (3 * id) 0
+abbrev pub functionOffset : List ℕ → ℕ → ℕ
+functionOffset functions id = getD functions (3 * id) 0
 
-abbrev pub sizeOf : List ℕ → ℕ → ℕ
-sizeOf functions id = getD functions (3 * id + 1) 0
+abbrev pub functionSize : List ℕ → ℕ → ℕ
+functionSize functions id = getD functions (3 * id + 1) 0
 
-abbrev pub nameIdOf : List ℕ → ℕ → ℕ
-nameIdOf functions id = getD functions (3 * id + 2) 0
+abbrev pub functionNameId : List ℕ → ℕ → ℕ
+functionNameId functions id = getD functions (3 * id + 2) 0
 
 -- not 20: "function id not below the count, offset below the area's base, or end past the area"
 unfoldable pub inArea : List ℕ → List ℕ → ℕ → ℕ → Bool
 inArea functions area base id =
     both (ltb id (functionCount functions))
-    (both (leb base (offsetOf functions id)) (leb (offsetOf functions id - base + sizeOf functions id) (length area)))
+    (both (leb base (functionOffset functions id)) (leb (functionOffset functions id - base + functionSize functions id) (length area)))
 
 -- the function's body
-abbrev pub bodyOf : List ℕ → List ℕ → ℕ → ℕ → List ℕ
-bodyOf functions area base id = part area (offsetOf functions id - base) (sizeOf functions id)
+abbrev pub functionBody : List ℕ → List ℕ → ℕ → ℕ → List ℕ
+functionBody functions area base id = part area (functionOffset functions id - base) (functionSize functions id)

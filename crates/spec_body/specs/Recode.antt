@@ -7,17 +7,17 @@ use Rattle.lists.specs.Choice.{pick}
 use Rattle.spec_numbers.specs.Parse.{Parsed}
 use Rattle.spec_numbers.specs.Parse.Parsed.{is, bad}
 use Rattle.spec_sheet.specs.Types.{kindOf}
-use Rattle.spec_body.specs.Record.{lengthOf, recordWords}
+use Rattle.spec_body.specs.Record.{lengthOf, recordWords, opcodeOf, operandsOf, pairsOf}
 use Rattle.spec_body.specs.Encode.{encodeOperand}
 
 -- the number that an operand was written as
-unfoldable pub numberOf : Parsed → ℕ
-numberOf (is v) = v
-numberOf bad = 0
+unfoldable pub writtenNumber : Parsed → ℕ
+writtenNumber (is v) = v
+writtenNumber bad = 0
 
 -- the bits of an operand of a type that was written from a kind and bits; 0 for no operand
 unfoldable pub writtenBits : ℕ → ℕ → ℕ → ℕ
-writtenBits code kind bits = pick (eqb code 0) 0 (numberOf (encodeOperand code kind bits))
+writtenBits code kind bits = pick (eqb code 0) 0 (writtenNumber (encodeOperand code kind bits))
 
 -- the pairs, by a row of type codes and the pairs that were written
 unfoldable pub recodedPairs : List ℕ → List ℕ → List ℕ
@@ -26,14 +26,14 @@ recodedPairs (c ∷ cs) words = kindOf c ∷ writtenBits c (getD words 0 0) (get
 
 -- the record at an offset: its opcode and count, and the length that its types have
 abbrev pub recodedRecord : List ℕ → List ℕ → ℕ → List ℕ
-recodedRecord row r at = at ∷ getD r 1 0 ∷ lengthOf row ∷ getD r 3 0 ∷ recodedPairs row (drop 4 r)
+recodedRecord row r at = at ∷ opcodeOf r ∷ lengthOf row ∷ operandsOf r ∷ recodedPairs row (pairsOf r)
 
 -- n records, the first at an offset, each behind the one before
 unfoldable pub recodedFrom : ℕ → List (List ℕ) → List ℕ → ℕ → List (List ℕ)
 recodedFrom zero types words at = []
 recodedFrom (suc n) types words at =
     let r = take recordWords words in
-    let row = getD types (getD r 1 0) [] in
+    let row = getD types (opcodeOf r) [] in
     recodedRecord row r at ∷ recodedFrom n types (drop recordWords words) (at + lengthOf row)
 
 -- all records of a slice

@@ -15,13 +15,13 @@ use Rattle.spec_strings.specs.Utf8.{afterLead, afterNext, step, utf8From}
 use Rattle.spec_strings.specs.Table.{tooLarge, wellFormed, faultFrom, lookupFrom}
 use Rattle.spec_strings.specs.Escape.{meant, unescape}
 use Rattle.spec_body.specs.Record.{sumBy}
-use Rattle.spec_body.specs.Operation.{Outcome}
-use Rattle.spec_body.specs.Operation.Outcome.{result, refusedWith}
-use Rattle.spec_listing.specs.Operation.{unlessFault, underTable, underEdition, underInputs}
+use Rattle.spec_answers.specs.Outcome.{Outcome, measured}
+use Rattle.spec_answers.specs.Outcome.Outcome.{result, refusedWith}
+use Rattle.spec_inputs.specs.Inputs.{unlessFault, underTable, underContext, underInputs}
 use Rattle.spec_hasm.specs.Text.{onto, linesOf, isWhite, solidLength, trim}
 use Rattle.spec_hasm.specs.Comment.{isQuote, isComment, outside, inside}
-use Rattle.spec_hasm.specs.Split.{splitOutside, splitInside, tokensFrom, tokens, nameIn, operandsIn}
-use Rattle.spec_hasm.specs.Line.{isSkipped, isLabel, hasHexMark, behindHexMark, isOffset, behindOffset, statementIn}
+use Rattle.spec_hasm.specs.Split.{splitOutside, splitInside, tokensFrom, tokens, instructionName, instructionOperands}
+use Rattle.spec_hasm.specs.Line.{isSkipped, isLabel, hasHexPrefix, behindHexMark, isOffset, behindOffset, statementIn}
 use Rattle.spec_hasm.specs.Token as token
 use Rattle.spec_hasm.specs.Token.{numberOr, foundOr, registerValue, isQuoted, stringValue, offsetOr, targetIn, isNear, distanceTo, tokenValue}
 use Rattle.spec_hasm.specs.Assemble.{isTextByte, unlessBadLine, onStatement, codesFrom, onName, unlessBadName, foundIn, holding, labelsFrom, unlessFound, labelOffset, prepend, onValue, operandsFrom, behind, onOperands, bytesFrom, assembleCodes, assembleText}
@@ -45,7 +45,7 @@ shown (refusedWith number line operand) = 1 ∷ number ∷ line ∷ operand ∷ 
 
 -- a text under that sheet, with two label entries lent
 unfoldable assembling : List ℕ → List ℕ
-unfolding shown sheet bytes ends run all same opens text leBytes digitValue digitsValue unsignedValue parseU32In minus negated parseI32 bitsOfWhole withSign wholeDigits readWhole readHex16 readDouble infinityText hexMark typeNames typeCodeIn typeCode widthOf familyOf kindOf after literalAt isNameByte numberRead numberAt keyedAt mayBeName nameAt typeAt withType typesFrom typesAt headAt lineTypes lineHead lineAt typeRow infoRow fill hasName findName isMissing mayFollow accepted onLine opsFrom sheetOps sheetAt endsAt sheetOf above afterLead afterNext step utf8From tooLarge wellFormed faultFrom lookupFrom meant unescape sumBy unlessFault underTable underEdition underInputs onto linesOf isWhite solidLength trim isQuote isComment outside inside splitOutside splitInside tokensFrom tokens nameIn operandsIn isSkipped isLabel hasHexMark behindHexMark isOffset behindOffset statementIn numberOr foundOr registerValue token.unsignedValue isQuoted stringValue offsetOr targetIn isNear distanceTo tokenValue isTextByte unlessBadLine onStatement codesFrom onName unlessBadName foundIn holding labelsFrom unlessFound labelOffset prepend onValue operandsFrom behind onOperands bytesFrom assembleCodes assembleText assembleOutcome assemble
+unfolding shown sheet bytes ends run all same opens text leBytes digitValue digitsValue unsignedValue parseU32In minus negated parseI32 bitsOfWhole withSign wholeDigits readWhole readHex16 readDouble infinityText hexMark typeNames typeCodeIn typeCode widthOf familyOf kindOf after literalAt isNameByte numberRead numberAt keyedAt mayBeName nameAt typeAt withType typesFrom typesAt headAt lineTypes lineHead lineAt typeRow infoRow fill hasName findName isMissing mayFollow accepted onLine opsFrom sheetOps sheetAt endsAt sheetOf above afterLead afterNext step utf8From tooLarge wellFormed faultFrom lookupFrom meant unescape sumBy unlessFault underTable underContext underInputs onto linesOf isWhite solidLength trim isQuote isComment outside inside splitOutside splitInside tokensFrom tokens instructionName instructionOperands isSkipped isLabel hasHexPrefix behindHexMark isOffset behindOffset statementIn numberOr foundOr registerValue token.unsignedValue isQuoted stringValue offsetOr targetIn isNear distanceTo tokenValue isTextByte unlessBadLine onStatement codesFrom onName unlessBadName foundIn holding labelsFrom unlessFound labelOffset prepend onValue operandsFrom behind onOperands bytesFrom assembleCodes assembleText assembleOutcome assemble measured
 assembling t = shown (assemble sheet bytes ends t 2)
 
 empty-text : assembling [] ≡ 0 ∷ []

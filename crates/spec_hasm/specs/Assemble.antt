@@ -11,11 +11,11 @@ use Rattle.lists.specs.Found.Found.{found, missing}
 use Rattle.spec_numbers.specs.LittleEndian.{leBytes}
 use Rattle.spec_sheet.specs.Types.{widthOf}
 use Rattle.spec_body.specs.Record.{lengthOf, countOf}
-use Rattle.spec_listing.specs.Edition.{Edition}
-use Rattle.spec_listing.specs.Listing.{lineLimit}
+use Rattle.spec_inputs.specs.Context.{Context}
+use Rattle.limits.specs.Limits.{lineLimit}
 use Rattle.spec_hasm.specs.Text.{linesOf}
-use Rattle.spec_hasm.specs.Split.{nameIn, operandsIn}
-use Rattle.spec_hasm.specs.Line.{Statement, statementOf, opcodeOf}
+use Rattle.spec_hasm.specs.Split.{instructionName, instructionOperands}
+use Rattle.spec_hasm.specs.Line.{Statement, statementOf, opcodeNamed}
 use Rattle.spec_hasm.specs.Line.Statement.{nothing, labelled, instruction}
 use Rattle.spec_hasm.specs.Token.{Value, tokenValue}
 use Rattle.spec_hasm.specs.Token.Value.{value, refused}
@@ -51,35 +51,35 @@ pub record Code : Type 0 where
 unfoldable pub onStatement : ℕ → Label → Statement → (Label → List Code) → List Code
 onStatement n waiting nothing rest = rest waiting
 onStatement n waiting (labelled t) rest = rest (called t)
-onStatement n waiting (instruction s) rest = record { line = n; label = waiting; name = nameIn s; operands = operandsIn s } ∷ rest none
+onStatement n waiting (instruction s) rest = record { line = n; label = waiting; name = instructionName s; operands = instructionOperands s } ∷ rest none
 
-unfoldable pub codesFrom : Edition → ℕ → Label → List (List ℕ) → List Code
+unfoldable pub codesFrom : Context → ℕ → Label → List (List ℕ) → List Code
 codesFrom e n waiting [] = []
 codesFrom e n waiting (l ∷ ls) = onStatement n waiting (statementOf e l) λ next. codesFrom e (suc n) next ls
 
 -- the type codes of an opcode
-abbrev pub rowOf : Edition → ℕ → List ℕ
+abbrev pub rowOf : Context → ℕ → List ℕ
 rowOf e opcode = getD (e .types) opcode []
 
 -- 4 and 5 of an instruction, then what follows
-unfoldable pub onName : Edition → Code → Found → Assembled → Assembled
+unfoldable pub onName : Context → Code → Found → Assembled → Assembled
 onName e c (found opcode) rest = pick (eqb (length (c .operands)) (countOf (rowOf e opcode))) rest (refusedAt 5 (c .line) 0)
 onName e c missing rest = refusedAt 4 (c .line) 0
 
 -- "then 4 and 5 over all lines"
-unfoldable pub unlessBadName : Edition → List Code → Assembled → Assembled
+unfoldable pub unlessBadName : Context → List Code → Assembled → Assembled
 unlessBadName e [] rest = rest
-unlessBadName e (c ∷ cs) rest = onName e c (opcodeOf e (c .name)) (unlessBadName e cs rest)
+unlessBadName e (c ∷ cs) rest = onName e c (opcodeNamed e (c .name)) (unlessBadName e cs rest)
 
 -- the opcode of a name that the sheet has
 unfoldable pub foundIn : Found → ℕ
 foundIn (found opcode) = opcode
 foundIn missing = 0
 
-abbrev pub opcodeIn : Edition → Code → ℕ
-opcodeIn e c = foundIn (opcodeOf e (c .name))
+abbrev pub opcodeIn : Context → Code → ℕ
+opcodeIn e c = foundIn (opcodeNamed e (c .name))
 
-abbrev pub sizeIn : Edition → Code → ℕ
+abbrev pub sizeIn : Context → Code → ℕ
 sizeIn e c = lengthOf (rowOf e (opcodeIn e c))
 
 -- "A label is held by its text part and offset"
@@ -92,7 +92,7 @@ holding none at rest = rest
 holding (called t) at rest = record { text = t; offset = at } ∷ rest
 
 -- the labels that instructions take, the first of which stands at `at`
-unfoldable pub labelsFrom : Edition → ℕ → List Code → List LabelAt
+unfoldable pub labelsFrom : Context → ℕ → List Code → List LabelAt
 labelsFrom e at [] = []
 labelsFrom e at (c ∷ cs) = holding (c .label) at (labelsFrom e (at + sizeIn e c) cs)
 
@@ -120,7 +120,7 @@ onValue width operand (value bits) rest = prepend (leBytes width bits) rest
 onValue width operand (refused number) rest = refusedOperand number operand
 
 -- the operands from number n on of the instruction at `at`
-unfoldable pub operandsFrom : Edition → (List ℕ → Found) → ℕ → ℕ → List ℕ → List (List ℕ) → Operands
+unfoldable pub operandsFrom : Context → (List ℕ → Found) → ℕ → ℕ → List ℕ → List (List ℕ) → Operands
 operandsFrom e labels at n [] ts = written []
 operandsFrom e labels at n (code ∷ codes) ts =
     let rest = operandsFrom e labels at (suc n) codes (drop 1 ts) in
@@ -135,23 +135,23 @@ onOperands opcode line (written bs) rest = behind (opcode ∷ bs) rest
 onOperands opcode line (refusedOperand number operand) rest = refusedAt number line operand
 
 -- "then 6 to 12 by line and operand": the instructions from offset `at` on
-unfoldable pub bytesFrom : Edition → (List ℕ → Found) → ℕ → List Code → Assembled
+unfoldable pub bytesFrom : Context → (List ℕ → Found) → ℕ → List Code → Assembled
 bytesFrom e labels at [] = assembled []
 bytesFrom e labels at (c ∷ cs) =
     let rest = bytesFrom e labels (at + sizeIn e c) cs in
     onOperands (opcodeIn e c) (c .line) (operandsFrom e labels at 1 (rowOf e (opcodeIn e c)) (c .operands)) rest
 
 -- the instructions of a text
-abbrev pub codesOf : Edition → List ℕ → List Code
+abbrev pub codesOf : Context → List ℕ → List Code
 codesOf e s = codesFrom e 1 none (linesOf s)
 
 -- "By passes, not in one"
-unfoldable pub assembleCodes : Edition → List Code → Assembled
+unfoldable pub assembleCodes : Context → List Code → Assembled
 assembleCodes e cs = unlessBadName e cs (bytesFrom e (labelOffset (labelsFrom e 0 cs)) 0 cs)
 
-unfoldable pub assembleText : Edition → List ℕ → Assembled
+unfoldable pub assembleText : Context → List ℕ → Assembled
 assembleText e s = unlessBadLine 1 (linesOf s) (assembleCodes e (codesOf e s))
 
 -- "one entry for each label line that an instruction takes"
-abbrev pub entriesFor : Edition → List ℕ → ℕ
-entriesFor e s = length (labelsFrom e 0 (codesOf e s))
+abbrev pub assembleEntries : Context → List ℕ → ℕ
+assembleEntries e s = length (labelsFrom e 0 (codesOf e s))

@@ -11,7 +11,7 @@ use Rattle.lists.specs.Found.{Found}
 use Rattle.spec_numbers.specs.Parse.{digitValue}
 use Rattle.spec_sheet.specs.Scan.{isDigit, isUpper, isLower}
 use Rattle.spec_sheet.specs.Sheet.{findName, isMissing}
-use Rattle.spec_listing.specs.Edition.{Edition}
+use Rattle.spec_inputs.specs.Context.{Context}
 use Rattle.spec_hasm.specs.Text.{isWhite, trimStart, trim}
 use Rattle.spec_hasm.specs.Comment.{stripComment}
 
@@ -27,8 +27,8 @@ isLabel s =
     both (eqb (getD s 0 0) 76) (both (eqb (getD s (length s - 1) 0) 58) (all isDigit behind))
 
 -- the opcode of a name, if the sheet has it
-abbrev pub opcodeOf : Edition → List ℕ → Found
-opcodeOf e name = findName (e .sheet) name 0 (e .infos)
+abbrev pub opcodeNamed : Context → List ℕ → Found
+opcodeNamed e name = findName (e .sheet) name 0 (e .infos)
 
 abbrev pub isHexDigit : ℕ → Bool
 isHexDigit b = ltb (digitValue b) 16
@@ -37,19 +37,19 @@ abbrev pub isLetter : ℕ → Bool
 isLetter b = either (isUpper b) (isLower b)
 
 -- what opens a hex number
-unfoldable pub hasHexMark : List ℕ → Bool
-hasHexMark s = either (opens (text "0x") s) (opens (text "0X") s)
+unfoldable pub hasHexPrefix : List ℕ → Bool
+hasHexPrefix s = either (opens (text "0x") s) (opens (text "0X") s)
 
 unfoldable pub behindHexMark : List ℕ → List ℕ
-behindHexMark s = pick (hasHexMark s) (drop 2 s) s
+behindHexMark s = pick (hasHexPrefix s) (drop 2 s) s
 
 -- `strip_offset_prefix`: hex digits that are a token and no name of the sheet ("stripping `Add` as an offset" is a mistake), in
 -- front of a letter
-unfoldable pub isOffset : Edition → List ℕ → ℕ → Bool
+unfoldable pub isOffset : Context → List ℕ → ℕ → Bool
 isOffset e s k =
-    both (ltb 0 k) (both (isWhite (getD s k 0)) (both (isMissing (opcodeOf e (take k s))) (isLetter (getD (trimStart (drop k s)) 0 0))))
+    both (ltb 0 k) (both (isWhite (getD s k 0)) (both (isMissing (opcodeNamed e (take k s))) (isLetter (getD (trimStart (drop k s)) 0 0))))
 
-unfoldable pub behindOffset : Edition → List ℕ → List ℕ
+unfoldable pub behindOffset : Context → List ℕ → List ℕ
 behindOffset e s =
     let digits = behindHexMark s in
     let k = run isHexDigit digits in
@@ -61,9 +61,9 @@ pub data Statement : Type 0 where
   labelled : List ℕ → Statement
   instruction : List ℕ → Statement
 
-unfoldable pub statementIn : Edition → List ℕ → Statement
+unfoldable pub statementIn : Context → List ℕ → Statement
 statementIn e s =
     pick (isSkipped s) nothing (pick (isLabel s) (labelled (take (length s - 1) s)) (instruction (behindOffset e s)))
 
-abbrev pub statementOf : Edition → List ℕ → Statement
+abbrev pub statementOf : Context → List ℕ → Statement
 statementOf e line = statementIn e (trim (stripComment line))

@@ -30,8 +30,8 @@ tokens (p ∷ ps) = tokensFrom p ps
 abbrev pub nameLength : List ℕ → ℕ
 nameLength s = run isSolid s
 
-unfoldable pub nameIn : List ℕ → List ℕ
-nameIn s = take (nameLength s) s
+unfoldable pub instructionName : List ℕ → List ℕ
+instructionName s = take (nameLength s) s
 
-unfoldable pub operandsIn : List ℕ → List (List ℕ)
-operandsIn s = tokens (splitOutside (trimStart (drop (nameLength s) s)))
+unfoldable pub instructionOperands : List ℕ → List (List ℕ)
+instructionOperands s = tokens (splitOutside (trimStart (drop (nameLength s) s)))

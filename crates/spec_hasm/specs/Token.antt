@@ -11,10 +11,10 @@ use Rattle.spec_numbers.specs.TwosComplement.{wrapSub}
 use Rattle.spec_numbers.specs.Parse.{Parsed, parseU32, parseHex, parseI32}
 use Rattle.spec_numbers.specs.Parse.Parsed.{is, bad}
 use Rattle.spec_numbers.specs.Double.{readDouble}
-use Rattle.spec_sheet.specs.Types.{familyOf, widthOf}
+use Rattle.spec_sheet.specs.Types.{familyOf, widthOf, regFamily, uintFamily, stringFamily, addrFamily, imm32Family}
 use Rattle.spec_strings.specs.Escape.{unescape}
 use Rattle.spec_strings.specs.Table.{lookup}
-use Rattle.spec_hasm.specs.Line.{hasHexMark}
+use Rattle.spec_hasm.specs.Line.{hasHexPrefix}
 
 -- the bits of a value, of which as many bytes are written as the type has, or the number that refuses the token
 pub data Value : Type 0 where
@@ -36,7 +36,7 @@ registerValue t = pick (either (eqb (getD t 0 0) 114) (eqb (getD t 0 0) 82)) (nu
 
 -- 11
 unfoldable pub unsignedValue : List ℕ → Value
-unsignedValue t = numberOr 11 (pick (hasHexMark t) (parseHex (drop 2 t)) (parseU32 t))
+unsignedValue t = numberOr 11 (pick (hasHexPrefix t) (parseHex (drop 2 t)) (parseU32 t))
 
 -- `unquote`: a quote at either end; "reading `\u00E9` as é" is a mistake
 unfoldable pub isQuoted : List ℕ → Bool
@@ -73,8 +73,8 @@ distanceTo width offset (refused number) = refused number
 -- a token for an operand of a type, in the instruction at `offset`
 unfoldable pub tokenValue : List ℕ → List ℕ → (List ℕ → Found) → ℕ → ℕ → List ℕ → Value
 tokenValue bytes ends labels offset code t =
-    pick (eqb (familyOf code) 1) (registerValue t)
-    (pick (eqb (familyOf code) 2) (unsignedValue t)
-    (pick (eqb (familyOf code) 3) (stringValue bytes ends t)
-    (pick (eqb (familyOf code) 4) (distanceTo (widthOf code) offset (targetIn labels t))
-    (pick (eqb (familyOf code) 5) (numberOr 11 (parseI32 t)) (numberOr 12 (readDouble t))))))
+    pick (eqb (familyOf code) regFamily) (registerValue t)
+    (pick (eqb (familyOf code) uintFamily) (unsignedValue t)
+    (pick (eqb (familyOf code) stringFamily) (stringValue bytes ends t)
+    (pick (eqb (familyOf code) addrFamily) (distanceTo (widthOf code) offset (targetIn labels t))
+    (pick (eqb (familyOf code) imm32Family) (numberOr 11 (parseI32 t)) (numberOr 12 (readDouble t))))))

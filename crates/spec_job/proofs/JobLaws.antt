@@ -9,20 +9,19 @@ use lib.ListN.{length}
 use borrow.Author.Tests.{eq-eqb, ne-eqb, eqb-true, eqb-false}
 use Rattle.lists.specs.Scan.{opens}
 use Rattle.lists.specs.Text.{text}
-use Rattle.spec_sheet.specs.Scan.{Step, after, literalAt}
+use Rattle.spec_sheet.specs.Scan.{Step, after, literalAt, lineEnd}
 use Rattle.spec_sheet.specs.Scan.Step.{next, off}
 use Rattle.spec_sheet.specs.Sheet.{Sheet, SheetRead, OpsRead, opsFrom, sheetOps, sheetAt}
 use Rattle.spec_sheet.specs.Sheet.SheetRead.{sheet, malformed}
 use Rattle.spec_sheet.specs.Sheet.OpsRead.{allRead, faultAfter as opsFault}
 use Rattle.spec_sheet.proofs.SheetLaws.{versionAt, countAt, no-version, no-count, count-zero, with-ops, ops-fault, sheet-lines}
 use Rattle.spec_sheet.proofs.ScanLaws.{keyed-bound}
-use Rattle.spec_sheet.specs.Scan.{lineEnd}
 use Rattle.spec_job.specs.Hex.{HexRead}
 use Rattle.spec_job.specs.Hex.HexRead.{hex, noHex}
 use Rattle.spec_job.specs.Table.{TableRead, onHex, keyedHexAt, stringsLimit, tableAt}
 use Rattle.spec_job.specs.Table.TableRead.{table, faultAfter}
-use Rattle.spec_job.specs.Job.{Edition, JobRead, withTable, withSheet, editionAt, onEdition, withBody, withText, readList, readAssemble, readWord, readJob}
-use Rattle.spec_job.specs.Job.EditionRead.{edition, badEdition}
+use Rattle.spec_job.specs.Job.{JobInputs, JobRead, withTable, withSheet, inputsAt, onInputs, withBody, withText, readList, readAssemble, readWord, readJob}
+use Rattle.spec_job.specs.Job.InputsRead.{inputs, badInputs}
 use Rattle.spec_job.specs.Job.JobRead.{badLine, listJob, assembleJob}
 use Rattle.spec_job.proofs.TableLaws.{table-size, keyed-spread}
 
@@ -50,23 +49,23 @@ sheet-fault s at k e = version (versionAt s at) refl
     version off q = (omega (arith, same 1 (no-version s at q)), omega (arith, same 1 (no-version s at q)))
     version (next v a) q = count v a q (countAt s at a) refl
 
--- the cases of an edition
+-- the cases of inputs
 module _ (s : List ℕ) (at line : ℕ) where
-  pub edition-whole : (sh : Sheet) (b : ℕ) (bs es : List ℕ) (c : ℕ) → sheetAt s at ≡ sheet sh b → tableAt s b ≡ table bs es c
-      → editionAt s at line ≡ edition (record { opcodes = sh .opcodes; bytes = bs; ends = es }) c (line + 2 + length (sh .opcodes) + 1 + length es)
+  pub inputs-whole : (sh : Sheet) (b : ℕ) (bs es : List ℕ) (c : ℕ) → sheetAt s at ≡ sheet sh b → tableAt s b ≡ table bs es c
+      → inputsAt s at line ≡ inputs (record { opcodes = sh .opcodes; bytes = bs; ends = es }) c (line + 2 + length (sh .opcodes) + 1 + length es)
   unfolding withSheet withTable
-  edition-whole sh b bs es c e f = rw (e, withSheet, f)
+  inputs-whole sh b bs es c e f = rw (e, withSheet, f)
 
-  pub edition-strings : (sh : Sheet) (b k : ℕ) → sheetAt s at ≡ sheet sh b → tableAt s b ≡ faultAfter k → editionAt s at line ≡ badEdition (line + 2 + length (sh .opcodes) + k)
+  pub inputs-strings : (sh : Sheet) (b k : ℕ) → sheetAt s at ≡ sheet sh b → tableAt s b ≡ faultAfter k → inputsAt s at line ≡ badInputs (line + 2 + length (sh .opcodes) + k)
   unfolding withSheet withTable
-  edition-strings sh b k e f = rw (e, withSheet, f)
+  inputs-strings sh b k e f = rw (e, withSheet, f)
 
-  pub edition-sheet : (k : ℕ) → sheetAt s at ≡ malformed k → editionAt s at line ≡ badEdition (line + k - 1)
+  pub inputs-sheet : (k : ℕ) → sheetAt s at ≡ malformed k → inputsAt s at line ≡ badInputs (line + k - 1)
   unfolding withSheet
-  edition-sheet k e = rw e
+  inputs-sheet k e = rw e
 
-  -- what an edition that was read is made of
-  pub record EditionParts (e : Edition) (c line′ : ℕ) : Type 0 where
+  -- what inputs that were read is made of
+  pub record InputsParts (e : JobInputs) (c line′ : ℕ) : Type 0 where
     pub of : Sheet
     pub place : ℕ
     pub is-sheet : sheetAt s at ≡ sheet of place
@@ -74,34 +73,34 @@ module _ (s : List ℕ) (at line : ℕ) where
     pub opcodes-are : e .opcodes ≡ of .opcodes
     pub line-is : line′ ≡ line + 2 + length (of .opcodes) + 1 + length (e .ends)
 
-  pub edition-parts : (e : Edition) (c line′ : ℕ) → editionAt s at line ≡ edition e c line′ → EditionParts e c line′
-  edition-parts e c line′ q = first (sheetAt s at) refl
+  pub inputs-parts : (e : JobInputs) (c line′ : ℕ) → inputsAt s at line ≡ inputs e c line′ → InputsParts e c line′
+  inputs-parts e c line′ q = first (sheetAt s at) refl
     where
-      second : (sh : Sheet) (b : ℕ) → sheetAt s at ≡ sheet sh b → (x : TableRead) → tableAt s b ≡ x → EditionParts e c line′
+      second : (sh : Sheet) (b : ℕ) → sheetAt s at ≡ sheet sh b → (x : TableRead) → tableAt s b ≡ x → InputsParts e c line′
       second sh b p (table bs es d) r =
-          let w = sym (edition-whole sh b bs es d p r) ∙ q in
-          let y : _≡_ {A = Edition} (record { opcodes = sh .opcodes; bytes = bs; ends = es }) e = cc w in
+          let w = sym (inputs-whole sh b bs es d p r) ∙ q in
+          let y : _≡_ {A = JobInputs} (record { opcodes = sh .opcodes; bytes = bs; ends = es }) e = cc w in
           let z : d ≡ c = cc w in
           let n : line + 2 + length (sh .opcodes) + 1 + length es ≡ line′ = cc w in
           record {
             of = sh;
             place = b;
             is-sheet = p;
-            is-table = r ∙ (rw z (ap (λ (f : Edition). table (f .bytes) (f .ends) c) y));
-            opcodes-are = sym (ap (λ (f : Edition). f .opcodes) y);
-            line-is = sym n ∙ ap (λ (f : Edition). line + 2 + length (sh .opcodes) + 1 + length (f .ends)) y;
+            is-table = r ∙ (rw z (ap (λ (f : JobInputs). table (f .bytes) (f .ends) c) y));
+            opcodes-are = sym (ap (λ (f : JobInputs). f .opcodes) y);
+            line-is = sym n ∙ ap (λ (f : JobInputs). line + 2 + length (sh .opcodes) + 1 + length (f .ends)) y;
           }
-      second sh b p (faultAfter k) r = absurd (let w = sym (edition-strings sh b k p r) ∙ q in let z : _≡_ {A = ℕ} 0 1 = cc w in omega arith)
+      second sh b p (faultAfter k) r = absurd (let w = sym (inputs-strings sh b k p r) ∙ q in let z : _≡_ {A = ℕ} 0 1 = cc w in omega arith)
 
-      first : (x : SheetRead) → sheetAt s at ≡ x → EditionParts e c line′
+      first : (x : SheetRead) → sheetAt s at ≡ x → InputsParts e c line′
       first (sheet sh b) p = second sh b p (tableAt s b) refl
-      first (malformed k) p = absurd (let w = sym (edition-sheet k p) ∙ q in let z : _≡_ {A = ℕ} 0 1 = cc w in omega arith)
+      first (malformed k) p = absurd (let w = sym (inputs-sheet k p) ∙ q in let z : _≡_ {A = ℕ} 0 1 = cc w in omega arith)
 
   -- at most 4,096 strings, half as many bytes as the text has, and 4,355 lines
-  pub edition-size : (e : Edition) (c line′ : ℕ) → editionAt s at line ≡ edition e c line′
+  pub inputs-size : (e : JobInputs) (c line′ : ℕ) → inputsAt s at line ≡ inputs e c line′
       → (length (e .ends) ≤ stringsLimit) × ((2 * length (e .bytes) ≤ length s) × (line′ ≤ line + 4355))
-  edition-size e c line′ q =
-      let p = edition-parts e c line′ q in
+  inputs-size e c line′ q =
+      let p = inputs-parts e c line′ q in
       let t = table-size s (p .place) (e .bytes) (e .ends) c (p .is-table) in
       (t .0, (t .1, omega (arith, p .line-is, t .0, sheet-lines s at (p .of) (p .place) (p .is-sheet))))
 
@@ -124,7 +123,7 @@ module _ (s : List ℕ) (at line : ℕ) (then : List ℕ → JobRead) where
 pub body-size : (s : List ℕ) (at line : ℕ) (bs : List ℕ) → ((then : List ℕ → JobRead) → withBody s at line then ≡ then bs) → 2 * length bs ≤ length s
 body-size s at line bs f = go (keyedHexAt (text "body=") s at) refl
   where
-    -- a continuation that tells how many bytes it got, by a line that the body itself never answers
+    -- a continuation that answers how many bytes it got, by a line that the body itself never answers
     counted : List ℕ → JobRead
     counted cs = badLine (line + 2 + length cs)
 
@@ -159,25 +158,25 @@ module _ (s : List ℕ) where
     unfolding readJob readWord literalAt after
     job-other e = rw (n, e)
 
-  -- one that asks for a listing by its edition
-  pub list-bad : (at line : ℕ) → editionAt s at 2 ≡ badEdition line → readList s at ≡ badLine line
-  unfolding readList onEdition
+  -- one that asks for a listing by its inputs
+  pub list-bad : (at line : ℕ) → inputsAt s at 2 ≡ badInputs line → readList s at ≡ badLine line
+  unfolding readList onInputs
   list-bad at line e = rw e
 
-  pub list-body : (at : ℕ) (e : Edition) (b line : ℕ) → editionAt s at 2 ≡ edition e b line → readList s at ≡ withBody s b line (listJob e)
-  unfolding readList onEdition
+  pub list-body : (at : ℕ) (e : JobInputs) (b line : ℕ) → inputsAt s at 2 ≡ inputs e b line → readList s at ≡ withBody s b line (listJob e)
+  unfolding readList onInputs
   list-body at e b line q = rw q
 
   -- one that asks for assembling likewise
-  pub assemble-bad : (at line : ℕ) → editionAt s at 2 ≡ badEdition line → readAssemble s at ≡ badLine line
-  unfolding readAssemble onEdition
+  pub assemble-bad : (at line : ℕ) → inputsAt s at 2 ≡ badInputs line → readAssemble s at ≡ badLine line
+  unfolding readAssemble onInputs
   assemble-bad at line e = rw e
 
-  pub assemble-text : (at : ℕ) (e : Edition) (b line : ℕ) → editionAt s at 2 ≡ edition e b line → readAssemble s at ≡ withText s b line e
-  unfolding readAssemble onEdition
+  pub assemble-text : (at : ℕ) (e : JobInputs) (b line : ℕ) → inputsAt s at 2 ≡ inputs e b line → readAssemble s at ≡ withText s b line e
+  unfolding readAssemble onInputs
   assemble-text at e b line q = rw q
 
-  module _ (at line : ℕ) (e : Edition) where
+  module _ (at line : ℕ) (e : JobInputs) where
     pub text-starts : (v b : ℕ) → literalAt (text "text=\n") s at ≡ next v b → withText s at line e ≡ assembleJob e b
     unfolding withText after
     text-starts v b q = rw q

@@ -15,10 +15,10 @@ use Rattle.spec_numbers.specs.TwosComplement.{wrapSub}
 use Rattle.spec_numbers.specs.Double.{readDouble}
 use Rattle.spec_sheet.specs.Types.{familyOf, widthOf}
 use Rattle.spec_body.specs.Record.{countOf}
-use Rattle.spec_listing.specs.Edition.{Edition}
-use Rattle.spec_listing.specs.Listing.{lineLimit}
+use Rattle.spec_inputs.specs.Context.{Context}
+use Rattle.limits.specs.Limits.{lineLimit}
 use Rattle.spec_hasm.specs.Text.{linesOf}
-use Rattle.spec_hasm.specs.Line.{opcodeOf}
+use Rattle.spec_hasm.specs.Line.{opcodeNamed}
 use Rattle.spec_hasm.specs.Token.{Value, numberOr, foundOr, registerValue, unsignedValue, isQuoted, stringValue, offsetOr, targetIn, isNear, distanceTo, tokenValue}
 use Rattle.spec_hasm.specs.Token.Value.{value, refused}
 use Rattle.spec_hasm.specs.Assemble.{Assembled, Code, Operands, unlessBadLine, isTextByte, rowOf, onName, unlessBadName, prepend, onValue, operandsFrom, behind, onOperands, bytesFrom, codesOf, assembleCodes, assembleText}
@@ -112,7 +112,7 @@ value-written width operand (value bits) (written bs) h l = omega arith
 value-written width operand (value bits) (refusedOperand number other) h l = l
 value-written width operand (refused number) rest h l = h
 
-operands-written : (e : Edition) (labels : List ℕ → Found) (at n : ℕ) (codes : List ℕ) (ts : List (List ℕ)) → 0 < inOperands (operandsFrom e labels at n codes ts)
+operands-written : (e : Context) (labels : List ℕ → Found) (at n : ℕ) (codes : List ℕ) (ts : List (List ℕ)) → 0 < inOperands (operandsFrom e labels at n codes ts)
 unfolding operandsFrom
 operands-written e labels at n [] ts = none-written
 operands-written e labels at n (code ∷ codes) ts =
@@ -125,26 +125,26 @@ line-written opcode line (written bs) (assembled cs) h l = omega arith
 line-written opcode line (written bs) (refusedAt number other operand) h l = l
 line-written opcode line (refusedOperand number operand) rest h l = h
 
-lines-written : (e : Edition) (labels : List ℕ → Found) (at : ℕ) (cs : List Code) → 0 < inAssembled (bytesFrom e labels at cs)
+lines-written : (e : Context) (labels : List ℕ → Found) (at : ℕ) (cs : List Code) → 0 < inAssembled (bytesFrom e labels at cs)
 unfolding bytesFrom inAssembled
 lines-written e labels at [] = omega arith
 lines-written e labels at (c ∷ cs) = line-written _ _ _ _ (operands-written e labels at 1 _ _) (lines-written e labels _ cs)
 
-name-read : (e : Edition) (c : Code) (x : Found) (rest : Assembled) → 0 < inAssembled rest → 0 < inAssembled (onName e c x rest)
+name-read : (e : Context) (c : Code) (x : Found) (rest : Assembled) → 0 < inAssembled rest → 0 < inAssembled (onName e c x rest)
 unfolding onName
 name-read e c (found opcode) rest h = either-way inAssembled (eqb (length (c .operands)) (countOf (rowOf e opcode))) _ _ h (refuses-at 4 (c .line) 0)
 name-read e c missing rest h = refuses-at 3 (c .line) 0
 
-names-read : (e : Edition) (cs : List Code) (rest : Assembled) → 0 < inAssembled rest → 0 < inAssembled (unlessBadName e cs rest)
+names-read : (e : Context) (cs : List Code) (rest : Assembled) → 0 < inAssembled rest → 0 < inAssembled (unlessBadName e cs rest)
 unfolding unlessBadName
 names-read e [] rest h = h
-names-read e (c ∷ cs) rest h = name-read e c (opcodeOf e (c .name)) _ (names-read e cs rest h)
+names-read e (c ∷ cs) rest h = name-read e c (opcodeNamed e (c .name)) _ (names-read e cs rest h)
 
 lines-read : (n : ℕ) (ls : List (List ℕ)) (rest : Assembled) → 0 < inAssembled rest → 0 < inAssembled (unlessBadLine n ls rest)
 unfolding unlessBadLine
 lines-read n [] rest h = h
 lines-read n (l ∷ ls) rest h = either-way inAssembled (ltb lineLimit (length l)) _ _ (refuses-at 2 n 0) (either-way inAssembled (all isTextByte l) _ _ (lines-read (suc n) ls rest h) (refuses-at 1 n 0))
 
-pub text-read : (e : Edition) (s : List ℕ) → 0 < inAssembled (assembleText e s)
+pub text-read : (e : Context) (s : List ℕ) → 0 < inAssembled (assembleText e s)
 unfolding assembleText assembleCodes
 text-read e s = lines-read 1 (linesOf s) _ (names-read e (codesOf e s) _ (lines-written e _ 0 (codesOf e s)))

@@ -14,40 +14,40 @@ use Rattle.spec_job.specs.Hex.HexRead.{hex}
 use Rattle.spec_job.specs.Table.{TableRead, onHex, keyedHexAt, tableAt}
 use Rattle.spec_job.specs.Table.TableRead.{table, faultAfter}
 
--- an edition as it stands in a job: the sheet's opcodes, whose names are places of the job, and its string table
-pub record Edition : Type 0 where
+-- inputs as it stands in a job: the sheet's opcodes, whose names are places of the job, and its string table
+pub record JobInputs : Type 0 where
   pub opcodes : List Op
   pub bytes : List ℕ
   pub ends : List ℕ
 
--- an edition, the place behind it and the number of the line there; or the malformed line, "numbered in the job"
-pub data EditionRead : Type 0 where
-  edition : Edition → ℕ → ℕ → EditionRead
-  badEdition : ℕ → EditionRead
+-- inputs, the place behind it and the number of the line there; or the malformed line, "numbered in the job"
+pub data InputsRead : Type 0 where
+  inputs : JobInputs → ℕ → ℕ → InputsRead
+  badInputs : ℕ → InputsRead
 
-unfoldable pub withTable : List Op → ℕ → TableRead → EditionRead
+unfoldable pub withTable : List Op → ℕ → TableRead → InputsRead
 withTable os line (table bytes ends at) =
-    edition (record { opcodes = os; bytes = bytes; ends = ends }) at (line + 1 + length ends)
-withTable os line (faultAfter k) = badEdition (line + k)
+    inputs (record { opcodes = os; bytes = bytes; ends = ends }) at (line + 1 + length ends)
+withTable os line (faultAfter k) = badInputs (line + k)
 
 -- a sheet whose first line is the job's line `line`, then strings
-unfoldable pub withSheet : List ℕ → ℕ → SheetRead → EditionRead
+unfoldable pub withSheet : List ℕ → ℕ → SheetRead → InputsRead
 withSheet s line (sheet sh at) = withTable (sh .opcodes) (line + 2 + length (sh .opcodes)) (tableAt s at)
-withSheet s line (malformed k) = badEdition (line + k - 1)
+withSheet s line (malformed k) = badInputs (line + k - 1)
 
-abbrev pub editionAt : List ℕ → ℕ → ℕ → EditionRead
-editionAt s at line = withSheet s line (sheetAt s at)
+abbrev pub inputsAt : List ℕ → ℕ → ℕ → InputsRead
+inputsAt s at line = withSheet s line (sheetAt s at)
 
--- what a job asks for: its edition and body; its edition and where its text starts; two editions and its body
+-- what a job asks for: its inputs and body; its inputs and where its text starts; two of them and its body
 pub data JobRead : Type 0 where
-  listJob : Edition → List ℕ → JobRead
-  assembleJob : Edition → ℕ → JobRead
-  carryJob : Edition → Edition → List ℕ → JobRead
+  listJob : JobInputs → List ℕ → JobRead
+  assembleJob : JobInputs → ℕ → JobRead
+  carryJob : JobInputs → JobInputs → List ℕ → JobRead
   badLine : ℕ → JobRead
 
-unfoldable pub onEdition : EditionRead → (Edition → ℕ → ℕ → JobRead) → JobRead
-onEdition (edition e at line) then = then e at line
-onEdition (badEdition line) then = badLine line
+unfoldable pub onInputs : InputsRead → (JobInputs → ℕ → ℕ → JobRead) → JobRead
+onInputs (inputs e at line) then = then e at line
+onInputs (badInputs line) then = badLine line
 
 -- `body=` and hex, and nothing behind that line: "a byte behind `body`'s line, is 1"
 unfoldable pub withBody : List ℕ → ℕ → ℕ → (List ℕ → JobRead) → JobRead
@@ -56,19 +56,19 @@ withBody s at line then =
     pick (eqb b (length s)) (then bs) (badLine (line + 1))
 
 unfoldable pub readList : List ℕ → ℕ → JobRead
-readList s at = onEdition (editionAt s at 2) λ e b line. withBody s b line (listJob e)
+readList s at = onInputs (inputsAt s at 2) λ e b line. withBody s b line (listJob e)
 
 -- "`job=assemble` has `text=` instead of `body`, the text starting on the next line"
-unfoldable pub withText : List ℕ → ℕ → ℕ → Edition → JobRead
+unfoldable pub withText : List ℕ → ℕ → ℕ → JobInputs → JobRead
 withText s at line e = after (literalAt (text "text=\n") s at) (badLine line) λ _ b. assembleJob e b
 
 unfoldable pub readAssemble : List ℕ → ℕ → JobRead
-readAssemble s at = onEdition (editionAt s at 2) λ e b line. withText s b line e
+readAssemble s at = onInputs (inputsAt s at 2) λ e b line. withText s b line e
 
 -- "`job=carry` puts the second sheet and strings before `body`"
 unfoldable pub readCarry : List ℕ → ℕ → JobRead
-readCarry s at = onEdition (editionAt s at 2) λ e b line.
-    onEdition (editionAt s b line) λ f c next.
+readCarry s at = onInputs (inputsAt s at 2) λ e b line.
+    onInputs (inputsAt s b line) λ f c next.
     withBody s c next (carryJob e f)
 
 -- a job's first line says which it is; a word that this desk does not have yet is malformed

@@ -4,52 +4,43 @@ use mathlib.Core.List.{List, [], _∷_, _++_}
 use Prim.Native.Nat.{ℕ}
 use lib.Dec.{ltb}
 use lib.ListN.{length, drop}
+use Rattle.limits.specs.Limits.{jobLimit, jobOutput, jobLabels}
 use Rattle.lists.specs.Choice.{pick}
 use Rattle.lists.specs.Text.{text}
 use Rattle.spec_numbers.specs.Print.{decimal, padded, hexUpper}
 use Rattle.spec_sheet.specs.Sheet.{typeRows, largest}
 use Rattle.spec_body.specs.Decode.{decodeBody}
-use Rattle.spec_body.specs.Operation.{Outcome}
-use Rattle.spec_body.specs.Operation.Outcome.{result, refusedWith}
-use Rattle.spec_listing.specs.Edition.{Options}
+use Rattle.spec_answers.specs.Outcome.{Outcome}
+use Rattle.spec_answers.specs.Outcome.Outcome.{result, refusedWith}
+use Rattle.spec_listing.specs.Options.{Options}
 use Rattle.spec_listing.specs.Listing.{listDecoded}
-use Rattle.spec_listing.specs.Operation.{listOutcome, underTable, editionOf}
-use Rattle.spec_hasm.specs.Assemble.{assembleText, entriesFor}
+use Rattle.spec_listing.specs.Operation.{listOutcome}
+use Rattle.spec_inputs.specs.Inputs.{underTable, contextOf}
+use Rattle.spec_hasm.specs.Assemble.{assembleText, assembleEntries}
 use Rattle.spec_hasm.specs.Operation.{assembleOutcome}
-use Rattle.spec_job.specs.Job.{Edition, JobRead, readJob}
+use Rattle.spec_job.specs.Job.{JobInputs, JobRead, readJob}
 use Rattle.spec_job.specs.Job.JobRead.{listJob, assembleJob, carryJob, badLine}
-
--- "a job, at most 65,536 bytes"
-abbrev pub jobLimit : ℕ
-jobLimit = 65536
-
--- "The program lends 65,536 output bytes and 4,096 label entries"
-abbrev pub outputLent : ℕ
-outputLent = 65536
-
-abbrev pub entriesLent : ℕ
-entriesLent = 4096
 
 -- "default shows offsets, labels and texts"
 abbrev pub defaultOptions : Options
 defaultOptions = record { showOffsets = true; showLabels = true; resolveStrings = true }
 
 -- the listing that a job asks for: 17, then as listing a body
-unfoldable pub listEdition : List ℕ → Edition → List ℕ → Outcome
-listEdition s e body =
-    let under = editionOf s (e .opcodes) (e .bytes) (e .ends) in
-    underTable (e .bytes) (e .ends) (listOutcome entriesLent (listDecoded defaultOptions under [] (decodeBody (typeRows (e .opcodes)) (largest (e .opcodes)) body)))
+unfoldable pub listUnder : List ℕ → JobInputs → List ℕ → Outcome
+listUnder s e body =
+    let under = contextOf s (e .opcodes) (e .bytes) (e .ends) in
+    underTable (e .bytes) (e .ends) (listOutcome jobLabels (listDecoded defaultOptions under [] (decodeBody (typeRows (e .opcodes)) (largest (e .opcodes)) body)))
 
--- the body that a job's text comes to: 17, then as assembling a text
-unfoldable pub assembleEdition : List ℕ → Edition → List ℕ → Outcome
-assembleEdition s e t =
-    let under = editionOf s (e .opcodes) (e .bytes) (e .ends) in
-    underTable (e .bytes) (e .ends) (assembleOutcome entriesLent (entriesFor under t) (assembleText under t))
+-- the body that a job's text is assembled to: 17, then as assembling a text
+unfoldable pub assembleUnder : List ℕ → JobInputs → List ℕ → Outcome
+assembleUnder s e t =
+    let under = contextOf s (e .opcodes) (e .bytes) (e .ends) in
+    underTable (e .bytes) (e .ends) (assembleOutcome jobLabels (assembleEntries under t) (assembleText under t))
 
 -- a job by its lines; carrying is not read yet
 unfoldable pub jobRun : List ℕ → JobRead → Outcome
-jobRun s (listJob e body) = listEdition s e body
-jobRun s (assembleJob e at) = assembleEdition s e (drop at s)
+jobRun s (listJob e body) = listUnder s e body
+jobRun s (assembleJob e at) = assembleUnder s e (drop at s)
 jobRun s (carryJob e f body) = refusedWith 1 1 0
 jobRun s (badLine line) = refusedWith 1 line 0
 
@@ -76,7 +67,7 @@ formOf (badLine line) t = t
 
 -- a result in its form, "past either it prints 19"; the bytes lent are the operation's, before they are printed
 unfoldable pub printedOf : (List ℕ → List ℕ) → Outcome → List ℕ
-printedOf form (result t n) = pick (ltb outputLent (length t)) (refusedText 19 0 0) (form t)
+printedOf form (result t n) = pick (ltb jobOutput (length t)) (refusedText 19 0 0) (form t)
 printedOf form (refusedWith number place operand) = refusedText number place operand
 
 abbrev pub printedJob : List ℕ → JobRead → List ℕ

@@ -14,11 +14,13 @@ use Rattle.lists.proofs.Scans.{all-append, all-pick, all-weaken}
 use Rattle.spec_numbers.specs.Print.{decimal, hexLower4}
 use Rattle.spec_sheet.specs.Types.{familyOf}
 use Rattle.spec_strings.proofs.EscapeByteLaws.{quoted-bytes}
-use Rattle.spec_listing.specs.Edition.{Edition, Options, nameOf}
+use Rattle.spec_inputs.specs.Context.{Context, nameOf}
+use Rattle.spec_listing.specs.Options.{Options}
 use Rattle.spec_listing.specs.Operand.{operandText, operandTexts}
-use Rattle.spec_listing.specs.Line.{offsetOf, opcodeOf, pairsOf, offsetText, instructionText}
+use Rattle.spec_listing.specs.Line.{offsetText, instructionText}
+use Rattle.spec_body.specs.Record.{offsetOf, opcodeOf, pairsOf}
 use Rattle.spec_listing.specs.Labels.{among}
-use Rattle.spec_listing.specs.Listing.{labelLine, labelText, instructionLine, linesOf}
+use Rattle.spec_listing.specs.Listing.{labelLine, labelText, instructionLine, listedText}
 use Rattle.spec_listing.proofs.LineShape.{labelHead, label-line}
 use Rattle.spec_listing.proofs.OperandShape.{string-text, by-text}
 use Rattle.spec_listing.proofs.TokenBytes.{tokenByte, Token, token-least, token-most, decimal-token}
@@ -61,7 +63,7 @@ module _ (texts : Bool) (bytes ends : List ℕ) (at : ℕ) where
       (operands-bytes (text ", ") refl codes (drop 2 pairs)))
 
 -- an instruction, where its name is one
-pub instruction-bytes : (offsets texts : Bool) (e : Edition) (r : List ℕ) → ListedName (nameOf e (opcodeOf r)) → all (within 32 126) (instructionText offsets texts e r) ≡ true
+pub instruction-bytes : (offsets texts : Bool) (e : Context) (r : List ℕ) → ListedName (nameOf e (opcodeOf r)) → all (within 32 126) (instructionText offsets texts e r) ≡ true
 unfolding instructionText all text
 instruction-bytes offsets texts e r n =
     let name = nameOf e (opcodeOf r) in
@@ -76,7 +78,7 @@ unfolding all
 label-bytes at = all-append (within 32 126) (decimal at) (58 ∷ []) (token-bytes (decimal at) (decimal-token at)) refl
 
 -- whatever holds of a line end and of 32 to 126 holds of a whole listing
-module _ (p : ℕ → Bool) (end : p 10 ≡ true) (shown : (b : ℕ) → 32 ≤ b → b ≤ 126 → p b ≡ true) (o : Options) (e : Edition) (labels indent : List ℕ) (front : all (within 32 126) indent ≡ true) where
+module _ (p : ℕ → Bool) (end : p 10 ≡ true) (shown : (b : ℕ) → 32 ≤ b → b ≤ 126 → p b ≡ true) (o : Options) (e : Context) (labels indent : List ℕ) (front : all (within 32 126) indent ≡ true) where
   widen : (s : List ℕ) → all (within 32 126) s ≡ true → all p s ≡ true
   widen s q = all-weaken (within 32 126) p (λ b w. shown b (within-least 32 126 b w) (within-most 32 126 b w)) s q
 
@@ -98,13 +100,13 @@ module _ (p : ℕ → Bool) (end : p 10 ≡ true) (shown : (b : ℕ) → 32 ≤ 
       let line = instructionText (o .showOffsets) (o .resolveStrings) e r in
       widen (indent ++ line) (all-append (within 32 126) indent line front (instruction-bytes (o .showOffsets) (o .resolveStrings) e r n))
 
-  pub lines-every : ((k : ℕ) → ListedName (nameOf e k)) → (rs : List (List ℕ)) → all p (linesOf o e labels indent rs) ≡ true
-  unfolding linesOf all text
+  pub lines-every : ((k : ℕ) → ListedName (nameOf e k)) → (rs : List (List ℕ)) → all p (listedText o e labels indent rs) ≡ true
+  unfolding listedText all text
   lines-every n [] = refl
   lines-every n (r ∷ rs) =
       let label = labelText o labels indent (offsetOf r) in
       let line = instructionLine o e indent r in
-      let rest = linesOf o e labels indent rs in
+      let rest = listedText o e labels indent rs in
       all-append p (label ++ line ++ (10 ∷ [])) rest
       (all-append p (label ++ line) (10 ∷ [])
       (all-append p label line (label-every (offsetOf r)) (instruction-every r (n (opcodeOf r))))

@@ -17,8 +17,8 @@ use Rattle.spec_sheet.specs.Sheet.SheetRead.{sheet}
 use Rattle.spec_sheet.proofs.NameTextLaws.{NameText, name-text, either-cases, invalid-no-name}
 use Rattle.spec_sheet.proofs.OwnNameLaws.{rowName, sheet-own-name, sheet-no-name}
 use Rattle.spec_sheet.proofs.RowLaws.{sheet-name}
-use Rattle.spec_listing.specs.Edition.{Edition, nameOf}
-use Rattle.spec_listing.specs.Operation.{editionOf}
+use Rattle.spec_inputs.specs.Context.{Context, nameOf}
+use Rattle.spec_inputs.specs.Inputs.{contextOf}
 use Rattle.spec_listing.proofs.TokenBytes.{tokenByte, Token, token-digit, token-letter}
 
 -- a name of a sheet, or what stands for a gap
@@ -27,7 +27,7 @@ pub data ListedName (name : List ℕ) : Type 0 where
   gap : name ≡ text "<invalid>" → ListedName name
 
 -- the name by an opcode's row, whose last number is the length
-module _ (e : Edition) (k : ℕ) where
+module _ (e : Context) (k : ℕ) where
   -- of a gap
   pub gap-name : getD (getD (e .infos) k []) 3 0 ≡ 0 → nameOf e k ≡ text "<invalid>"
   unfolding nameOf
@@ -62,20 +62,20 @@ module _ (s : List ℕ) (at : ℕ) (sh : Sheet) (c : ℕ) (e : sheetAt s at ≡ 
   size = getD (getD (infoRows (sh .opcodes)) k []) 3 0
 
   -- the name of an opcode of the sheet
-  pub sheet-name-text : 0 < size → NameText (nameOf (editionOf s (sh .opcodes) bytes ends) k)
-  sheet-name-text h = rw (row-name (editionOf s (sh .opcodes) bytes ends) k h) (name-text s _ _ (sheet-name s at sh c e k h))
+  pub sheet-name-text : 0 < size → NameText (nameOf (contextOf s (sh .opcodes) bytes ends) k)
+  sheet-name-text h = rw (row-name (contextOf s (sh .opcodes) bytes ends) k h) (name-text s _ _ (sheet-name s at sh c e k h))
 
   -- every opcode's
-  pub listed-name : ListedName (nameOf (editionOf s (sh .opcodes) bytes ends) k)
+  pub listed-name : ListedName (nameOf (contextOf s (sh .opcodes) bytes ends) k)
   listed-name =
       by-eqb size 0
-      (λ z. gap (gap-name (editionOf s (sh .opcodes) bytes ends) k z))
+      (λ z. gap (gap-name (contextOf s (sh .opcodes) bytes ends) k z))
       (λ z. named (sheet-name-text (omega (arith, z))))
 
   -- it is found again, at its opcode
-  pub name-found : (n : ℕ) → k < n → 0 < size → findName s (nameOf (editionOf s (sh .opcodes) bytes ends) k) 0 (take n (infoRows (sh .opcodes))) ≡ found k
-  name-found n l h = rw (row-name (editionOf s (sh .opcodes) bytes ends) k h) (sheet-own-name s at sh c e n k l h)
+  pub name-found : (n : ℕ) → k < n → 0 < size → findName s (nameOf (contextOf s (sh .opcodes) bytes ends) k) 0 (take n (infoRows (sh .opcodes))) ≡ found k
+  name-found n l h = rw (row-name (contextOf s (sh .opcodes) bytes ends) k h) (sheet-own-name s at sh c e n k l h)
 
   -- what stands for a gap is not
-  pub gap-missing : (n : ℕ) → size ≡ 0 → findName s (nameOf (editionOf s (sh .opcodes) bytes ends) k) 0 (take n (infoRows (sh .opcodes))) ≡ missing
-  gap-missing n z = rw (gap-name (editionOf s (sh .opcodes) bytes ends) k z) (sheet-no-name s at sh c e (text "<invalid>") n invalid-no-name)
+  pub gap-missing : (n : ℕ) → size ≡ 0 → findName s (nameOf (contextOf s (sh .opcodes) bytes ends) k) 0 (take n (infoRows (sh .opcodes))) ≡ missing
+  gap-missing n z = rw (gap-name (contextOf s (sh .opcodes) bytes ends) k z) (sheet-no-name s at sh c e (text "<invalid>") n invalid-no-name)

@@ -15,9 +15,10 @@ use Rattle.spec_numbers.specs.Print.{decimal}
 use Rattle.spec_sheet.proofs.OpLaws.{TypeCodes}
 use Rattle.spec_sheet.proofs.OpLaws.TypeCodes.{none, one}
 use Rattle.spec_body.proofs.RowLaws.{GoodRow}
-use Rattle.spec_listing.specs.Edition.{Edition, nameOf}
+use Rattle.spec_inputs.specs.Context.{Context, nameOf}
 use Rattle.spec_listing.specs.Operand.{operandText, operandTexts}
-use Rattle.spec_listing.specs.Line.{offsetOf, opcodeOf, pairsOf, offsetText, instructionText}
+use Rattle.spec_listing.specs.Line.{offsetText, instructionText}
+use Rattle.spec_body.specs.Record.{offsetOf, opcodeOf, pairsOf}
 use Rattle.spec_listing.specs.Listing.{labelLine}
 
 -- pieces, each behind a comma and a space
@@ -43,7 +44,7 @@ operandPieces texts bytes ends at (code ∷ codes) pairs =
     pick (eqb code 0) [] (operandText texts bytes ends at code (getD pairs 1 0) ∷ rest)
 
 -- those of a record
-abbrev pub piecesOf : Bool → Edition → List ℕ → List (List ℕ)
+abbrev pub piecesOf : Bool → Context → List ℕ → List (List ℕ)
 piecesOf texts e r = operandPieces texts (e .bytes) (e .ends) (offsetOf r) (getD (e .types) (opcodeOf r) []) (pairsOf r)
 
 -- pieces, the first behind a separator
@@ -84,7 +85,7 @@ module _ (texts : Bool) (bytes ends : List ℕ) (at : ℕ) where
   pub operand-texts : (codes pairs : List ℕ) → operandTexts texts bytes ends at (text " ") codes pairs ≡ behindName (operandPieces texts bytes ends at codes pairs)
   operand-texts codes pairs = texts-separated (text " ") codes pairs ∙ space-separated (operandPieces texts bytes ends at codes pairs)
 
-  -- zeros behind a row's codes bring no piece
+  -- zeros behind a row's codes contribute no piece
   pub pieces-row : (codes : List ℕ) → TypeCodes codes → (k : ℕ) (pairs : List ℕ) → operandPieces texts bytes ends at (codes ++ replicate k 0) pairs ≡ operandPieces texts bytes ends at codes pairs
   unfolding operandPieces
   pieces-row [] none zero pairs = refl
@@ -117,7 +118,7 @@ module _ (texts : Bool) (bytes ends : List ℕ) (at : ℕ) where
     piece-at pairs i h = rw (g .is-row, pieces-row (g .codes) (g .types) _ pairs) (codes-at (g .codes) (g .types) pairs i h)
 
 -- offset, name and operands
-pub instruction-text : (offsets texts : Bool) (e : Edition) (r : List ℕ) → instructionText offsets texts e r ≡ offsetText offsets (offsetOf r) ++ nameOf e (opcodeOf r) ++ behindName (piecesOf texts e r)
+pub instruction-text : (offsets texts : Bool) (e : Context) (r : List ℕ) → instructionText offsets texts e r ≡ offsetText offsets (offsetOf r) ++ nameOf e (opcodeOf r) ++ behindName (piecesOf texts e r)
 unfolding instructionText
 instruction-text offsets texts e r = rw (operand-texts texts (e .bytes) (e .ends) (offsetOf r) (getD (e .types) (opcodeOf r) []) (pairsOf r))
 

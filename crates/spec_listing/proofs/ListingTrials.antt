@@ -20,15 +20,17 @@ use Rattle.spec_strings.specs.Escape.{unicode, escape, escapeAll, escapeText, q
 use Rattle.spec_body.specs.Record.{sumBy, pairs}
 use Rattle.spec_body.specs.Decode.{prepend, decodeFrom}
 use Rattle.spec_body.specs.Function.{inArea}
-use Rattle.spec_body.specs.Operation.{Outcome}
-use Rattle.spec_body.specs.Operation.Outcome.{result, refusedWith}
-use Rattle.spec_listing.specs.Edition.{Options, nameOf, isJump}
+use Rattle.spec_answers.specs.Outcome.{Outcome, measured}
+use Rattle.spec_answers.specs.Outcome.Outcome.{result, refusedWith}
+use Rattle.spec_listing.specs.Options.{Options}
+use Rattle.spec_inputs.specs.Context.{nameOf, isJump}
 use Rattle.spec_listing.specs.Operand.{distanceOf, targetOf, stringText, operandText, operandTexts}
 use Rattle.spec_listing.specs.Line.{offsetText, instructionText}
 use Rattle.spec_listing.specs.Labels.{endsFlow, targets, labelsOf, labelOffsets, among, different}
-use Rattle.spec_listing.specs.Listing.{labelLine, labelText, instructionLine, linesOf, longLine, entriesFor, unlessLong, listDecoded, append}
+use Rattle.spec_listing.specs.Listing.{labelLine, labelText, instructionLine, longLine, unlessLong, listDecoded, append, listedText, listEntries}
 use Rattle.spec_listing.specs.Module.{Area, functionName, banner, listFunctionIn, listFunctionsFrom}
-use Rattle.spec_listing.specs.Operation.{listOutcome, unlessFault, underTable, underEdition, underInputs, list, listModule}
+use Rattle.spec_listing.specs.Operation.{listOutcome, list, listModule}
+use Rattle.spec_inputs.specs.Inputs.{unlessFault, underTable, underContext, underInputs}
 
 -- the sheet, strings and body of document 01's job
 unfoldable sheet : List ℕ
@@ -51,13 +53,13 @@ textOf : Outcome → List ℕ
 textOf (result t n) = t
 textOf (refusedWith number place operand) = number ∷ place ∷ operand ∷ []
 
--- what listing the body, and a module of one function with a name that is escaped, comes to
+-- what listing the body, and a module of one function with a name that is escaped, evaluates to
 unfoldable listing : Options → ℕ → List ℕ
-unfolding textOf bytes ends body list listModule hexUpper hexUpper4 underInputs underTable unlessFault underEdition listOutcome tooLarge wellFormed faultFrom afterLead afterNext step utf8From leadBits bitsAfter charsFrom unicode escape escapeAll escapeText quoted decodeFrom prepend pairs sumBy le extend8 digit digits padded decimal signedDecimal hexLower hexLower4 widthOf familyOf kindOf sheetOf endsAt sheetAt sheetOps opsFrom onLine accepted mayFollow isMissing findName hasName fill typeRow infoRow lineAt lineHead lineTypes headAt typesAt typesFrom withType typeAt nameAt mayBeName keyedAt numberAt numberRead isNameByte literalAt after typeCode typeCodeIn typeNames unsignedValue digitsValue digitValue run same opens text above sheet inArea nameOf isJump distanceOf targetOf stringText operandText operandTexts offsetText instructionText endsFlow targets labelsOf labelOffsets among different labelLine labelText instructionLine linesOf longLine entriesFor unlessLong listDecoded append functionName banner listFunctionIn listFunctionsFrom
+unfolding textOf bytes ends body list listModule hexUpper hexUpper4 underInputs underTable unlessFault underContext listOutcome tooLarge wellFormed faultFrom afterLead afterNext step utf8From leadBits bitsAfter charsFrom unicode escape escapeAll escapeText quoted decodeFrom prepend pairs sumBy le extend8 digit digits padded decimal signedDecimal hexLower hexLower4 widthOf familyOf kindOf sheetOf endsAt sheetAt sheetOps opsFrom onLine accepted mayFollow isMissing findName hasName fill typeRow infoRow lineAt lineHead lineTypes headAt typesAt typesFrom withType typeAt nameAt mayBeName keyedAt numberAt numberRead isNameByte literalAt after typeCode typeCodeIn typeNames unsignedValue digitsValue digitValue run same opens text above sheet inArea nameOf isJump distanceOf targetOf stringText operandText operandTexts offsetText instructionText endsFlow targets labelsOf labelOffsets among different labelLine labelText instructionLine listedText longLine listEntries unlessLong listDecoded append functionName banner listFunctionIn listFunctionsFrom measured
 listing o lent = textOf (list o sheet bytes ends body lent)
 
 unfoldable moduleListing : Options → ℕ → List ℕ
-unfolding textOf bytes ends body list listModule hexUpper hexUpper4 underInputs underTable unlessFault underEdition listOutcome tooLarge wellFormed faultFrom afterLead afterNext step utf8From leadBits bitsAfter charsFrom unicode escape escapeAll escapeText quoted decodeFrom prepend pairs sumBy le extend8 digit digits padded decimal signedDecimal hexLower hexLower4 widthOf familyOf kindOf sheetOf endsAt sheetAt sheetOps opsFrom onLine accepted mayFollow isMissing findName hasName fill typeRow infoRow lineAt lineHead lineTypes headAt typesAt typesFrom withType typeAt nameAt mayBeName keyedAt numberAt numberRead isNameByte literalAt after typeCode typeCodeIn typeNames unsignedValue digitsValue digitValue run same opens text above sheet inArea nameOf isJump distanceOf targetOf stringText operandText operandTexts offsetText instructionText endsFlow targets labelsOf labelOffsets among different labelLine labelText instructionLine linesOf longLine entriesFor unlessLong listDecoded append functionName banner listFunctionIn listFunctionsFrom
+unfolding textOf bytes ends body list listModule hexUpper hexUpper4 underInputs underTable unlessFault underContext listOutcome tooLarge wellFormed faultFrom afterLead afterNext step utf8From leadBits bitsAfter charsFrom unicode escape escapeAll escapeText quoted decodeFrom prepend pairs sumBy le extend8 digit digits padded decimal signedDecimal hexLower hexLower4 widthOf familyOf kindOf sheetOf endsAt sheetAt sheetOps opsFrom onLine accepted mayFollow isMissing findName hasName fill typeRow infoRow lineAt lineHead lineTypes headAt typesAt typesFrom withType typeAt nameAt mayBeName keyedAt numberAt numberRead isNameByte literalAt after typeCode typeCodeIn typeNames unsignedValue digitsValue digitValue run same opens text above sheet inArea nameOf isJump distanceOf targetOf stringText operandText operandTexts offsetText instructionText endsFlow targets labelsOf labelOffsets among different labelLine labelText instructionLine listedText longLine listEntries unlessLong listDecoded append functionName banner listFunctionIn listFunctionsFrom measured
 moduleListing o lent = textOf (listModule o sheet bytes ends (record { functions = 20 ∷ 2 ∷ 1 ∷ []; bytes = 0 ∷ 4 ∷ 1 ∷ []; base = 19 }) lent)
 
 -- document 01's listing, with one label entry for each of its three label offsets

@@ -7,10 +7,10 @@ use lib.ListN.{getD, drop}
 use Rattle.lists.specs.Choice.{pick, either}
 use Rattle.lists.specs.Scan.{same}
 use Rattle.lists.specs.Text.{text}
-use Rattle.spec_sheet.specs.Types.{familyOf}
-use Rattle.spec_listing.specs.Edition.{Edition, nameOf, isJump}
+use Rattle.spec_sheet.specs.Types.{familyOf, addrFamily}
+use Rattle.spec_inputs.specs.Context.{Context, nameOf, isJump}
 use Rattle.spec_listing.specs.Operand.{targetOf}
-use Rattle.spec_listing.specs.Line.{offsetOf, opcodeOf, pairsOf}
+use Rattle.spec_body.specs.Record.{offsetOf, opcodeOf, pairsOf}
 
 -- "after Ret, Throw, Jmp and JmpLong"
 unfoldable pub endsFlow : List ℕ → Bool
@@ -24,15 +24,15 @@ targets at [] pairs = []
 targets at (code ∷ codes) pairs =
     let target = targetOf at code (getD pairs 1 0) in
     let rest = targets at codes (drop 2 pairs) in
-    pick (eqb (familyOf code) 4) (pick (ltb target (2 ^ 31)) (target ∷ rest) rest) rest
+    pick (eqb (familyOf code) addrFamily) (pick (ltb target (2 ^ 31)) (target ∷ rest) rest) rest
 
--- the label offsets that one instruction brings: the one behind it, and its targets where it is a jump
-unfoldable pub labelsOf : Edition → List ℕ → List ℕ
+-- the label offsets that one instruction contributes: the one behind it, and its targets where it is a jump
+unfoldable pub labelsOf : Context → List ℕ → List ℕ
 labelsOf e r =
     let row = getD (e .types) (opcodeOf r) [] in
     pick (endsFlow (nameOf e (opcodeOf r))) ((offsetOf r + getD r 2 0) ∷ []) [] ++ pick (isJump e (opcodeOf r)) (targets (offsetOf r) row (pairsOf r)) []
 
-unfoldable pub labelOffsets : Edition → List (List ℕ) → List ℕ
+unfoldable pub labelOffsets : Context → List (List ℕ) → List ℕ
 labelOffsets e [] = []
 labelOffsets e (r ∷ rs) = labelsOf e r ++ labelOffsets e rs
 

@@ -1,4 +1,4 @@
-pub mod Edition
+pub mod Options
 pub mod Operand
 pub mod Line
 pub mod Labels

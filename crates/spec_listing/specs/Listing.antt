@@ -9,15 +9,14 @@ use Rattle.lists.specs.Text.{text}
 use Rattle.lists.specs.Found.{Found}
 use Rattle.lists.specs.Found.Found.{found, missing}
 use Rattle.spec_numbers.specs.Print.{decimal}
+use Rattle.limits.specs.Limits.{lineLimit}
 use Rattle.spec_body.specs.Decode.{Decoded}
 use Rattle.spec_body.specs.Decode.Decoded.{decoded, beyond, cut}
-use Rattle.spec_listing.specs.Edition.{Edition, Options}
-use Rattle.spec_listing.specs.Line.{offsetOf, instructionText}
+use Rattle.spec_inputs.specs.Context.{Context}
+use Rattle.spec_listing.specs.Options.{Options}
+use Rattle.spec_listing.specs.Line.{instructionText}
+use Rattle.spec_body.specs.Record.{offsetOf}
 use Rattle.spec_listing.specs.Labels.{labelOffsets, among, different}
-
--- "line over 4,096 bytes, line end .. not counted" is 3
-abbrev pub lineLimit : ℕ
-lineLimit = 4096
 
 -- a label's line, and the line of the instruction; `indent` is what the module listing puts in front of each
 unfoldable pub labelLine : List ℕ → ℕ → List ℕ
@@ -27,17 +26,17 @@ labelLine indent at = indent ++ text "L" ++ decimal at ++ text ":\n"
 unfoldable pub labelText : Options → List ℕ → List ℕ → ℕ → List ℕ
 labelText o labels indent at = pick (both (o .showLabels) (among at labels)) (labelLine indent at) []
 
-unfoldable pub instructionLine : Options → Edition → List ℕ → List ℕ → List ℕ
+unfoldable pub instructionLine : Options → Context → List ℕ → List ℕ → List ℕ
 instructionLine o e indent r = indent ++ instructionText (o .showOffsets) (o .resolveStrings) e r
 
 -- all lines, where `labels` are the offsets that have a label
-unfoldable pub linesOf : Options → Edition → List ℕ → List ℕ → List (List ℕ) → List ℕ
-linesOf o e labels indent [] = []
-linesOf o e labels indent (r ∷ rs) =
-    labelText o labels indent (offsetOf r) ++ instructionLine o e indent r ++ text "\n" ++ linesOf o e labels indent rs
+unfoldable pub listedText : Options → Context → List ℕ → List ℕ → List (List ℕ) → List ℕ
+listedText o e labels indent [] = []
+listedText o e labels indent (r ∷ rs) =
+    labelText o labels indent (offsetOf r) ++ instructionLine o e indent r ++ text "\n" ++ listedText o e labels indent rs
 
 -- the offset of the first instruction whose line is over the limit; a label's line never is
-unfoldable pub longLine : Options → Edition → List ℕ → List (List ℕ) → Found
+unfoldable pub longLine : Options → Context → List ℕ → List (List ℕ) → Found
 longLine o e indent [] = missing
 longLine o e indent (r ∷ rs) =
     let rest = longLine o e indent rs in
@@ -49,17 +48,17 @@ pub data Listed : Type 0 where
   refused : ℕ → ℕ → ℕ → Listed
 
 -- "Listing needs one for each different offset of `collect_label_offsets`, none with labels off"
-unfoldable pub entriesFor : Options → Edition → List (List ℕ) → ℕ
-entriesFor o e rs = pick (o .showLabels) (different (labelOffsets e rs)) 0
+unfoldable pub listEntries : Options → Context → List (List ℕ) → ℕ
+listEntries o e rs = pick (o .showLabels) (different (labelOffsets e rs)) 0
 
 unfoldable pub unlessLong : Found → Listed → Listed
 unlessLong (found at) rest = refused 3 at 0
 unlessLong missing rest = rest
 
 -- "Listing: decoding, then 3"
-unfoldable pub listDecoded : Options → Edition → List ℕ → Decoded → Listed
+unfoldable pub listDecoded : Options → Context → List ℕ → Decoded → Listed
 listDecoded o e indent (decoded rs) =
-    unlessLong (longLine o e indent rs) (listed (linesOf o e (labelOffsets e rs) indent rs) (entriesFor o e rs))
+    unlessLong (longLine o e indent rs) (listed (listedText o e (labelOffsets e rs) indent rs) (listEntries o e rs))
 listDecoded o e indent (beyond at) = refused 13 at 0
 listDecoded o e indent (cut at) = refused 14 at 0
 

@@ -9,10 +9,11 @@ use Rattle.lists.specs.Text.{text}
 use Rattle.spec_numbers.specs.Print.{decimal}
 use Rattle.spec_strings.specs.Escape.{quoted}
 use Rattle.spec_body.specs.Decode.{decodeBody}
-use Rattle.spec_body.specs.Function.{inArea, bodyOf, sizeOf, nameIdOf, functionCount}
-use Rattle.spec_body.specs.Operation.{bodyLimit}
-use Rattle.spec_listing.specs.Edition.{Edition, Options, hasText, textAt}
-use Rattle.spec_listing.specs.Listing.{Listed, lineLimit, listDecoded, append}
+use Rattle.spec_body.specs.Function.{inArea, functionCount, functionBody, functionSize, functionNameId}
+use Rattle.limits.specs.Limits.{bodyLimit, lineLimit}
+use Rattle.spec_inputs.specs.Context.{Context, hasText, textAt}
+use Rattle.spec_listing.specs.Options.{Options}
+use Rattle.spec_listing.specs.Listing.{Listed, listDecoded, append}
 use Rattle.spec_listing.specs.Listing.Listed.{listed, refused}
 
 -- the functions of an area: u32 triples, the area's bytes, and the offset that the area's first byte has
@@ -22,7 +23,7 @@ pub record Area : Type 0 where
   pub base : ℕ
 
 -- a function's name: the text of its name id, or none
-unfoldable pub functionName : Edition → ℕ → List ℕ
+unfoldable pub functionName : Context → ℕ → List ℕ
 functionName e id = pick (hasText e id) (textAt e id) []
 
 -- `function N (name):`, the name quoted; an empty name gives the short form
@@ -32,20 +33,20 @@ banner id name =
 
 -- one function: "20, 18 of its body, its banner's 3, decoding, then 3 with the two spaces counted; 20 and a banner's 3 give
 -- the function's index"
-unfoldable pub listFunctionIn : Options → Edition → ℕ → Area → ℕ → Listed
+unfoldable pub listFunctionIn : Options → Context → ℕ → Area → ℕ → Listed
 listFunctionIn o e last a id =
-    let title = banner id (functionName e (nameIdOf (a .functions) id)) in
-    let body = listDecoded o e (text "  ") (decodeBody (e .types) last (bodyOf (a .functions) (a .bytes) (a .base) id)) in
+    let title = banner id (functionName e (functionNameId (a .functions) id)) in
+    let body = listDecoded o e (text "  ") (decodeBody (e .types) last (functionBody (a .functions) (a .bytes) (a .base) id)) in
     let whole = append (append (listed (title ++ text "\n") 0) body) (listed (text "\n") 0) in
     pick (inArea (a .functions) (a .bytes) (a .base) id)
-    (pick (ltb bodyLimit (sizeOf (a .functions) id)) (refused 18 0 0)
+    (pick (ltb bodyLimit (functionSize (a .functions) id)) (refused 18 0 0)
     (pick (ltb lineLimit (length title)) (refused 3 id 0) whole))
     (refused 20 id 0)
 
 -- "Functions are taken by index": n of them from `id` on
-unfoldable pub listFunctionsFrom : ℕ → Options → Edition → ℕ → Area → ℕ → Listed
+unfoldable pub listFunctionsFrom : ℕ → Options → Context → ℕ → Area → ℕ → Listed
 listFunctionsFrom zero o e last a id = listed [] 0
 listFunctionsFrom (suc n) o e last a id = append (listFunctionIn o e last a id) (listFunctionsFrom n o e last a (suc id))
 
-abbrev pub listAll : Options → Edition → ℕ → Area → Listed
+abbrev pub listAll : Options → Context → ℕ → Area → Listed
 listAll o e last a = listFunctionsFrom (functionCount (a .functions)) o e last a 0

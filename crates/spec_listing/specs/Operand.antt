@@ -9,13 +9,13 @@ use Rattle.lists.specs.Text.{text}
 use Rattle.spec_numbers.specs.TwosComplement.{signed, wrapAdd, extend8}
 use Rattle.spec_numbers.specs.Print.{decimal, signedDecimal}
 use Rattle.spec_numbers.specs.Double.{printDouble}
-use Rattle.spec_sheet.specs.Types.{familyOf}
+use Rattle.spec_sheet.specs.Types.{familyOf, regFamily, uintFamily, stringFamily, addrFamily, imm32Family, addr8}
 use Rattle.spec_strings.specs.Table.{textOf}
 use Rattle.spec_strings.specs.Escape.{quoted}
 
 -- the 32 bits of an Addr's distance: Addr8 (code 9) is a signed byte
 unfoldable pub distanceOf : ℕ → ℕ → ℕ
-distanceOf code bits = pick (eqb code 9) (extend8 bits) bits
+distanceOf code bits = pick (eqb code addr8) (extend8 bits) bits
 
 -- the 32 bits of an Addr's target: "The target sum wraps at 32 bits"
 unfoldable pub targetOf : ℕ → ℕ → ℕ → ℕ
@@ -29,11 +29,11 @@ stringText texts bytes ends id = pick (both texts (ltb id (length ends))) (quote
 -- number, a double by its bits
 unfoldable pub operandText : Bool → List ℕ → List ℕ → ℕ → ℕ → ℕ → List ℕ
 operandText texts bytes ends at code bits =
-    pick (eqb (familyOf code) 1) (114 ∷ decimal bits)
-    (pick (eqb (familyOf code) 2) (decimal bits)
-    (pick (eqb (familyOf code) 3) (stringText texts bytes ends bits)
-    (pick (eqb (familyOf code) 4) (76 ∷ signedDecimal (signed 32 (targetOf at code bits)))
-    (pick (eqb (familyOf code) 5) (signedDecimal (signed 32 bits)) (printDouble bits)))))
+    pick (eqb (familyOf code) regFamily) (114 ∷ decimal bits)
+    (pick (eqb (familyOf code) uintFamily) (decimal bits)
+    (pick (eqb (familyOf code) stringFamily) (stringText texts bytes ends bits)
+    (pick (eqb (familyOf code) addrFamily) (76 ∷ signedDecimal (signed 32 (targetOf at code bits)))
+    (pick (eqb (familyOf code) imm32Family) (signedDecimal (signed 32 bits)) (printDouble bits)))))
 
 -- the operands of a row of type codes with their pairs of kind and bits, each behind what separates it from what stands
 -- before: a space, then comma and space; code 0 is no operand

@@ -47,7 +47,7 @@ negative = 2 ^ 63
 unfoldable pub signText : ℕ → List ℕ
 signText sign = pick (eqb sign 0) [] (45 ∷ [])
 
--- the word for an infinity without its sign, and the mark of the hex form
+-- the word for an infinity without its sign, and the prefix of the hex form
 unfoldable pub infinityText : List ℕ
 infinityText = text "Infinity"
 

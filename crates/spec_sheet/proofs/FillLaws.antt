@@ -6,7 +6,7 @@ use Prim.Native.Nat.{ℕ, suc}
 use native.Mathlib.Omega.{arith}
 use lib.ListN.{set}
 use Rattle.lists.specs.Choice.{pick}
-use Rattle.spec_sheet.specs.Line.{Op, LineRead, nameOf}
+use Rattle.spec_sheet.specs.Line.{Op, LineRead, opName}
 use Rattle.spec_sheet.specs.Line.LineRead.{line, noLine}
 use Rattle.spec_sheet.specs.Sheet.{fill, above, mayFollow, accepted}
 
@@ -24,7 +24,7 @@ above-more n (p ∷ seen) o = above-more (suc (p .code)) seen o
 -- a line that is accepted was read, and may follow
 pub accepted-is : (s : List ℕ) (least : ℕ) (rows : List (List ℕ)) (x : LineRead) (o : Op) (b : ℕ) → accepted s least rows x ≡ line o b → x ≡ line o b
 unfolding accepted
-accepted-is s least rows (line p a) o b e = go (mayFollow s least rows (p .code) (nameOf s p)) e
+accepted-is s least rows (line p a) o b e = go (mayFollow s least rows (p .code) (opName s p)) e
   where
     go : (f : Bool) → pick f (line p a) noLine ≡ line o b → line p a ≡ line o b
     go true q = q

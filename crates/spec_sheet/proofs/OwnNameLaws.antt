@@ -14,7 +14,7 @@ use Rattle.lists.specs.Found.{Found}
 use Rattle.lists.specs.Found.Found.{found, missing}
 use Rattle.lists.proofs.Tests.{both-left, both-right, both-yes, both-no-left, by-test, by-leb, by-eqb, true-not-false}
 use Rattle.lists.proofs.Scans.{same-refl, same-eq}
-use Rattle.spec_sheet.specs.Line.{Op, nameOf, infoRow}
+use Rattle.spec_sheet.specs.Line.{Op, infoRow, opName}
 use Rattle.spec_sheet.specs.Sheet.{noInfoRows, infoRows, hasName, findName, Sheet, sheetAt, above}
 use Rattle.spec_sheet.specs.Sheet.SheetRead.{sheet}
 use Rattle.spec_sheet.proofs.NameLaws.{find-cons-here, find-cons-next}
@@ -166,11 +166,11 @@ no-size-from s os t k h =
     (λ l. ap (λ (r : List ℕ). getD r 3 0) (gaps-from s os t k l h .info))
 
 -- an opcode that follows: no row of those seen has its name
-follows-new : (s : List ℕ) (seen : List Op) (o : Op) → Taken s seen → Follows s seen o → (j : ℕ) → hasName s (nameOf s o) (getD (infoRows seen) j []) ≡ false
+follows-new : (s : List ℕ) (seen : List Op) (o : Op) → Taken s seen → Follows s seen o → (j : ℕ) → hasName s (opName s o) (getD (infoRows seen) j []) ≡ false
 follows-new s seen o t f j =
     by-leb (above 0 seen) j
-    (λ h. has-none s (nameOf s o) _ (no-size-from s seen t j h))
-    (λ h. missing-none s (nameOf s o) (above 0 seen) (infoRows seen) (f .new-name) j h)
+    (λ h. has-none s (opName s o) _ (no-size-from s seen t j h))
+    (λ h. missing-none s (opName s o) (above 0 seen) (infoRows seen) (f .new-name) j h)
 
 -- a row with a name has one that no row before it has
 pub names-rise : (s : List ℕ) (os : List Op) → Taken s os → (j k : ℕ) → j < k → 0 < getD (getD (infoRows os) k []) 3 0

@@ -16,7 +16,7 @@ use Rattle.spec_sheet.specs.Line.{withType, typesFrom, typesAt, headAt, 
 use Rattle.spec_sheet.specs.Sheet.{fill, hasName, findName, isMissing, mayFollow, accepted, onLine, opsFrom, sheetOps, sheetAt, endsAt, sheetOf, SheetRead, above, largest}
 use Rattle.spec_sheet.specs.Sheet.SheetRead.{sheet, malformed}
 
--- what a sheet's reading comes to: 0 and its version, largest opcode and count, or the malformed line
+-- what a sheet's reading evaluates to: 0 and its version, largest opcode and count, or the malformed line
 unfoldable pub outcome : SheetRead → List ℕ
 outcome (sheet sh at) = 0 ∷ sh .version ∷ largest (sh .opcodes) ∷ length (sh .opcodes) ∷ []
 outcome (malformed k) = k ∷ []
@@ -25,7 +25,7 @@ unfoldable pub outcomeOf : List ℕ → List ℕ
 unfolding outcome sheetOf endsAt sheetAt sheetOps opsFrom onLine accepted mayFollow isMissing findName hasName fill typeRow infoRow lineAt lineHead lineTypes headAt typesAt typesFrom withType typeAt nameAt mayBeName keyedAt numberAt numberRead isNameByte literalAt after typeCode typeCodeIn typeNames unsignedValue digitsValue digitValue run same opens text above
 outcomeOf s = outcome (sheetOf s)
 
--- a text and what its reading comes to
+-- a text and what its reading evaluates to
 pub record Trial : Type 0 where
   pub input : String
   pub expected : List ℕ

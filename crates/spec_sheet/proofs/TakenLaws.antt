@@ -11,7 +11,7 @@ use Rattle.lists.specs.Choice.{pick}
 use Rattle.lists.specs.Found.{Found}
 use Rattle.lists.specs.Found.Found.{found, missing}
 use Rattle.lists.proofs.Tests.{both-left, both-right, by-eqb, true-not-false}
-use Rattle.spec_sheet.specs.Line.{Op, LineRead, nameOf, lineAt}
+use Rattle.spec_sheet.specs.Line.{Op, LineRead, lineAt, opName}
 use Rattle.spec_sheet.specs.Line.LineRead.{line, noLine}
 use Rattle.spec_sheet.specs.Sheet.{infoRows, findName, isMissing, mayFollow, accepted, OpsRead, opsFrom, Sheet, sheetAt, above}
 use Rattle.spec_sheet.specs.Sheet.OpsRead.{allRead, faultAfter}
@@ -24,7 +24,7 @@ use Rattle.spec_sheet.proofs.SheetLaws.{OnLine, passed, stopped, on-lin
 pub record Follows (s : List ℕ) (seen : List Op) (o : Op) : Type 0 where
   pub good : GoodOp s o
   pub rises : above 0 seen ≤ o .code
-  pub new-name : findName s (nameOf s o) 0 (take (above 0 seen) (infoRows seen)) ≡ missing
+  pub new-name : findName s (opName s o) 0 (take (above 0 seen) (infoRows seen)) ≡ missing
 
 -- opcodes that were taken one after the other, the last one on the outside
 pub data Taken (s : List ℕ) : List Op → Type 0 where
@@ -49,11 +49,11 @@ follow-name s least rows code name e = missing-is _ (both-right (leb least code)
 
 -- a line that is accepted may follow
 pub accepted-follows : (s : List ℕ) (least : ℕ) (rows : List (List ℕ)) (x : LineRead) (o : Op) (b : ℕ) → accepted s least rows x ≡ line o b
-    → mayFollow s least rows (o .code) (nameOf s o) ≡ true
+    → mayFollow s least rows (o .code) (opName s o) ≡ true
 unfolding accepted
-accepted-follows s least rows (line p a) o b e = go (mayFollow s least rows (p .code) (nameOf s p)) refl e
+accepted-follows s least rows (line p a) o b e = go (mayFollow s least rows (p .code) (opName s p)) refl e
   where
-    go : (f : Bool) → mayFollow s least rows (p .code) (nameOf s p) ≡ f → pick f (line p a) noLine ≡ line o b → mayFollow s least rows (o .code) (nameOf s o) ≡ true
+    go : (f : Bool) → mayFollow s least rows (p .code) (opName s p) ≡ f → pick f (line p a) noLine ≡ line o b → mayFollow s least rows (o .code) (opName s o) ≡ true
     go true h q = let w : p ≡ o = cc q in rw w at h
     go false h q = absurd (let z : _≡_ {A = ℕ} 0 1 = cc q in omega arith)
 accepted-follows s least rows noLine o b e = absurd (let z : _≡_ {A = ℕ} 0 1 = cc e in omega arith)
@@ -64,8 +64,8 @@ accepted-taken s at seen o b e =
     let h = accepted-follows s (above 0 seen) (infoRows seen) (lineAt s at) o b e in
     record {
       good = line-good s at o b (accepted-is s (above 0 seen) (infoRows seen) (lineAt s at) o b e);
-      rises = follow-rises s (above 0 seen) (infoRows seen) (o .code) (nameOf s o) h;
-      new-name = follow-name s (above 0 seen) (infoRows seen) (o .code) (nameOf s o) h;
+      rises = follow-rises s (above 0 seen) (infoRows seen) (o .code) (opName s o) h;
+      new-name = follow-name s (above 0 seen) (infoRows seen) (o .code) (opName s o) h;
     }
 
 -- every opcode that is read was taken

@@ -17,8 +17,8 @@ pub record Op : Type 0 where
   pub types : List ℕ
 
 -- an opcode's name in the text of its sheet
-abbrev pub nameOf : List ℕ → Op → List ℕ
-nameOf s o = part s (o .start) (o .size)
+abbrev pub opName : List ℕ → Op → List ℕ
+opName s o = part s (o .start) (o .size)
 
 -- operand types that were read and the place behind them
 pub data TypesRead : Type 0 where
@@ -82,3 +82,19 @@ typeRow o = o .types ++ replicate (8 - length (o .types)) 0
 
 unfoldable pub infoRow : Op → List ℕ
 infoRow o = length (o .types) ∷ o .jump ∷ o .start ∷ o .size ∷ []
+
+-- the four numbers of such a row by their names, and the name that it points to in the text
+abbrev pub operandCount : List ℕ → ℕ
+operandCount row = getD row 0 0
+
+abbrev pub jumpMark : List ℕ → ℕ
+jumpMark row = getD row 1 0
+
+abbrev pub nameStart : List ℕ → ℕ
+nameStart row = getD row 2 0
+
+abbrev pub nameSize : List ℕ → ℕ
+nameSize row = getD row 3 0
+
+abbrev pub nameIn : List ℕ → List ℕ → List ℕ
+nameIn s row = part s (nameStart row) (nameSize row)

@@ -3,14 +3,14 @@ use Prim.Native.Nat.{ℕ, zero, suc, _+_, _-_, _^_}
 use mathlib.Core.Bool.{Bool, true, false}
 use mathlib.Core.List.{List, [], _∷_, _++_}
 use lib.Dec.{eqb, leb, ltb}
-use lib.ListN.{length, take, getD, set, replicate}
+use lib.ListN.{length, take, set, replicate}
 use Rattle.lists.specs.Choice.{pick, both}
-use Rattle.lists.specs.Scan.{same, part}
+use Rattle.lists.specs.Scan.{same}
 use Rattle.lists.specs.Text.{text}
 use Rattle.lists.specs.Found.{Found}
 use Rattle.lists.specs.Found.Found.{found, missing}
 use Rattle.spec_sheet.specs.Scan.{after, keyedAt, lineEnd}
-use Rattle.spec_sheet.specs.Line.{Op, nameOf, LineRead, lineAt, typeRow, infoRow}
+use Rattle.spec_sheet.specs.Line.{Op, LineRead, lineAt, typeRow, infoRow, opName, nameSize, nameIn}
 use Rattle.spec_sheet.specs.Line.LineRead.{line, noLine}
 
 -- the rows of 256 opcodes, where those of a list are filled in; "gaps below the largest opcode become "<invalid>" with no operands"
@@ -34,7 +34,7 @@ infoRows ops = fill infoRow noInfoRows ops
 
 -- a row of the latter has this name in the text s
 unfoldable pub hasName : List ℕ → List ℕ → List ℕ → Bool
-hasName s name row = both (ltb 0 (getD row 3 0)) (same (part s (getD row 2 0) (getD row 3 0)) name)
+hasName s name row = both (ltb 0 (nameSize row)) (same (nameIn s row) name)
 
 -- the first opcode, counted from k, that has a name
 unfoldable pub findName : List ℕ → List ℕ → ℕ → List (List ℕ) → Found
@@ -54,7 +54,7 @@ mayFollow s least rows code name = both (leb least code) (isMissing (findName s 
 
 -- a line that was read, where its opcode may follow those in the rows
 unfoldable pub accepted : List ℕ → ℕ → List (List ℕ) → LineRead → LineRead
-accepted s least rows (line o at) = pick (mayFollow s least rows (o .code) (nameOf s o)) (line o at) noLine
+accepted s least rows (line o at) = pick (mayFollow s least rows (o .code) (opName s o)) (line o at) noLine
 accepted s least rows noLine = noLine
 
 -- what follows a line, and what is answered where there is none

@@ -33,6 +33,13 @@ typeCodeIn (name ∷ names) k word =
 unfoldable pub typeCode : List ℕ → ℕ
 typeCode word = typeCodeIn typeNames 1 word
 
+-- two codes that definitions name
+abbrev pub addr8 : ℕ
+addr8 = 9
+
+abbrev pub double : ℕ
+double = 12
+
 -- "Bytes: Reg8, UInt8, UInt8S, Addr8 1; UInt16, UInt16S 2; Reg32, UInt32, UInt32S, Addr32, Imm32 4; Double 8", by code
 abbrev pub widths : List ℕ
 widths = 0 ∷ 1 ∷ 4 ∷ 1 ∷ 2 ∷ 4 ∷ 1 ∷ 2 ∷ 4 ∷ 1 ∷ 4 ∷ 4 ∷ 8 ∷ []
@@ -40,9 +47,42 @@ widths = 0 ∷ 1 ∷ 4 ∷ 1 ∷ 2 ∷ 4 ∷ 1 ∷ 2 ∷ 4 ∷ 1 ∷ 4 ∷ 4 ∷
 unfoldable pub widthOf : ℕ → ℕ
 widthOf code = getD widths code 0
 
--- the families of a carry: 1 Reg, 2 UInt, 3 string, 4 Addr, 5 Imm32, 6 Double; 0 for no operand
+-- "families are Reg, UInt, string, Addr, Imm32, Double"; 0 for no operand
+abbrev pub regFamily : ℕ
+regFamily = 1
+
+abbrev pub uintFamily : ℕ
+uintFamily = 2
+
+abbrev pub stringFamily : ℕ
+stringFamily = 3
+
+abbrev pub addrFamily : ℕ
+addrFamily = 4
+
+abbrev pub imm32Family : ℕ
+imm32Family = 5
+
+abbrev pub doubleFamily : ℕ
+doubleFamily = 6
+
+-- by code
 abbrev pub families : List ℕ
-families = 0 ∷ 1 ∷ 1 ∷ 2 ∷ 2 ∷ 2 ∷ 3 ∷ 3 ∷ 3 ∷ 4 ∷ 4 ∷ 5 ∷ 6 ∷ []
+families =
+    0
+    ∷ regFamily
+    ∷ regFamily
+    ∷ uintFamily
+    ∷ uintFamily
+    ∷ uintFamily
+    ∷ stringFamily
+    ∷ stringFamily
+    ∷ stringFamily
+    ∷ addrFamily
+    ∷ addrFamily
+    ∷ imm32Family
+    ∷ doubleFamily
+    ∷ []
 
 unfoldable pub familyOf : ℕ → ℕ
 familyOf code = getD families code 0

@@ -14,7 +14,7 @@ use Rattle.lists.specs.Found.Found.{found, missing}
 use Rattle.lists.proofs.Tests.{both-left, both-right, by-test, by-leb, true-not-false}
 use Rattle.lists.proofs.Scans.{same-eq, same-refl}
 use Rattle.spec_strings.specs.Utf8.{isUtf8}
-use Rattle.spec_strings.specs.Table.{startOf, endOf, textOf, wellFormed, faultFrom, fault, lookupFrom, lookup}
+use Rattle.spec_strings.specs.Table.{textOf, wellFormed, faultFrom, fault, lookupFrom, lookup, entryStart, entryEnd}
 use Rattle.spec_strings.proofs.TableSteps.{fault-cons-go, fault-cons-stop, lookup-cons-go, lookup-cons-stop}
 
 -- a search does not both find and miss
@@ -151,7 +151,7 @@ no-fault-from bytes start id (e ∷ es) q k h = go (no-fault-from bytes e (suc i
     go ih false t k h = missing-not-found (sym q ∙ fault-cons-stop bytes start id e es t)
 
 -- in a table without fault every entry is in order
-pub no-fault : (bytes ends : List ℕ) → fault bytes ends ≡ missing → (id : ℕ) → id < length ends → Sound bytes (startOf ends id) (endOf ends id)
+pub no-fault : (bytes ends : List ℕ) → fault bytes ends ≡ missing → (id : ℕ) → id < length ends → Sound bytes (entryStart ends id) (entryEnd ends id)
 no-fault bytes ends q id h = sound bytes _ _ (no-fault-from bytes 0 0 ends q id h)
 
 -- bytes behind those of an entry in order leave its text

@@ -9,10 +9,10 @@ use lib.ListN.{length, drop, getD, drop-of-length-le}
 use lib.Seq.{drop-cons}
 use Rattle.lists.specs.Scan.{same, part}
 use Rattle.lists.specs.Found.Found.{found, missing}
-use Rattle.spec_strings.specs.Table.{startOf, wellFormed, faultFrom, lookupFrom}
+use Rattle.spec_strings.specs.Table.{wellFormed, faultFrom, lookupFrom, entryStart}
 
 -- an entry behind the first starts where the one before it ends
-pub start-next : (ends : List ℕ) (id : ℕ) → 0 < id → startOf ends id ≡ getD ends (id - 1) 0
+pub start-next : (ends : List ℕ) (id : ℕ) → 0 < id → entryStart ends id ≡ getD ends (id - 1) 0
 start-next ends zero h = absurd (omega arith)
 start-next ends (suc id) h =
     let e : suc id - 1 ≡ id = omega arith in

@@ -4,6 +4,7 @@ use mathlib.Core.Bool.{Bool}
 use mathlib.Core.List.{List, [], _∷_}
 use lib.Dec.{leb, ltb}
 use lib.ListN.{length, getD}
+use Rattle.limits.specs.Limits.{stringLimit, stringBytesLimit}
 use Rattle.lists.specs.Choice.{pick, both, either}
 use Rattle.lists.specs.Scan.{same, part}
 use Rattle.lists.specs.Found.{Found}
@@ -12,18 +13,18 @@ use Rattle.spec_strings.specs.Utf8.{isUtf8}
 
 -- "more than 65,536 strings or 1,048,576 string bytes" is 18
 unfoldable pub tooLarge : List ℕ → List ℕ → Bool
-tooLarge bytes ends = either (ltb 65536 (length ends)) (ltb 1048576 (length bytes))
+tooLarge bytes ends = either (ltb stringLimit (length ends)) (ltb stringBytesLimit (length bytes))
 
 -- where an entry starts and ends: each at the end of the one before it
-abbrev pub startOf : List ℕ → ℕ → ℕ
-startOf ends id = getD (0 ∷ ends) id 0
+abbrev pub entryStart : List ℕ → ℕ → ℕ
+entryStart ends id = getD (0 ∷ ends) id 0
 
-abbrev pub endOf : List ℕ → ℕ → ℕ
-endOf ends id = getD ends id 0
+abbrev pub entryEnd : List ℕ → ℕ → ℕ
+entryEnd ends id = getD ends id 0
 
 -- the text of an id below the count
 abbrev pub textOf : List ℕ → List ℕ → ℕ → List ℕ
-textOf bytes ends id = part bytes (startOf ends id) (endOf ends id - startOf ends id)
+textOf bytes ends id = part bytes (entryStart ends id) (entryEnd ends id - entryStart ends id)
 
 -- an entry from `start` to `end`: the ends do not fall, do not pass the bytes, and the entry is UTF-8
 unfoldable pub wellFormed : List ℕ → ℕ → ℕ → Bool

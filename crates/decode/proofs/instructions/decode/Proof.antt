@@ -1,8 +1,8 @@
 use Rattle.decode.proofs.DecodeCases.{under-read, under-none, decode-large, decode-small}
 use Rattle.decode.proofs.BodyAnswers.{refused}
 use Rattle.sheet.proofs.UnderSheet.{read-as, malformed-as, some-opcode}
-use Rattle.decode_answer.specs.declared.DecodeAnswer.the-variants as answer
-use Rattle.decode_answer.specs.Answers.{decodeReport}
+use Rattle.decode.specs.declared.answer.DecodeAnswer.the-variants as answer
+use Rattle.decode.specs.Answers.{decodeReport}
 use native.Mathlib.Omega.{arith}
 use mathlib.Core.Path.{refl, sym, _∙_}
 use borrow.Author.Needs.{needs}
@@ -19,25 +19,25 @@ returns : tie.Need-returns
 unfolding decodeReport
 returns c =
     let a = c .before .before .before .before .before .before .before .before .args in
-    let w = refused _ answer.TooLarge 18 0 0 (a .out .now) _ (decode-large (a .text .now) (a .body .now) (c .before .before .before .before .if1 .taken)) refl (c .before .before .clear-words .ensures) in
+    let w = refused _ answer.TooLarge 18 0 0 (a .out .now) _ (decode-large (a .sheet .now) (a .body .now) (c .before .before .before .before .if1 .taken)) refl (c .before .before .clear-words .ensures) in
     (w .answer-is, w .words-are)
 
 read-sheet-requires : tie.Need-read-sheet-requires
 read-sheet-requires c κs = search needs
 
-enum-known-sheet : tie.Need-enum-known-sheet
-enum-known-sheet c = search needs
+enum-known-read : tie.Need-enum-known-read
+enum-known-read c = search needs
 
 sub-decode-under : tie.Need-sub-decode-under
 sub-decode-under c =
     let s = c .before .before .before .before .read-sheet .ensures in
-    omega (arith, some-opcode (c .before .before .before .before .before .before .before .before .before .before .before .args .text .now) _ (read-as _ _ _ _ _ (sym (s .0) ∙ c .before .before .sheet .given .1)))
+    omega (arith, some-opcode (c .before .before .before .before .before .before .before .before .before .before .before .args .sheet .now) _ (read-as _ _ _ _ _ (sym (s .0) ∙ c .before .before .read .given .1)))
 
 decode-under-requires : tie.Need-decode-under-requires
 decode-under-requires c κs = search needs
 
-enum-known-sheet-2 : tie.Need-enum-known-sheet-2
-enum-known-sheet-2 c = search needs
+enum-known-read-2 : tie.Need-enum-known-read-2
+enum-known-read-2 c = search needs
 
 clear-words-requires-2 : tie.Need-clear-words-requires-2
 clear-words-requires-2 c κs = search needs
@@ -49,8 +49,8 @@ returns-2 : tie.Need-returns-2
 returns-2 c =
     let a = c .before .before .before .before .before .before .before .before .before .before .before .before .before .before .before .args in
     let s = c .before .before .before .before .before .before .before .before .read-sheet .ensures in
-    let r = read-as _ _ _ _ _ (sym (s .0) ∙ c .before .before .before .before .before .before .sheet .given .1) in
-    let e = decode-small (a .text .now) (a .body .now) (c .before .before .before .before .before .before .before .before .before .before .before .if1 .left) ∙ under-read _ _ r _ in
+    let r = read-as _ _ _ _ _ (sym (s .0) ∙ c .before .before .before .before .before .before .read .given .1) in
+    let e = decode-small (a .sheet .now) (a .body .now) (c .before .before .before .before .before .before .before .before .before .before .before .if1 .left) ∙ under-read _ _ r _ in
     rw (e, sym (s .1 .0)) (c .before .before .decode-under .ensures)
 
 same-length-3 : tie.Need-same-length-3
@@ -61,8 +61,8 @@ unfolding decodeReport
 returns-3 c =
     let a = c .before .before .before .before .before .before .before .before .before .before .before .before .before .before .args in
     let s = c .before .before .before .before .before .before .before .read-sheet .ensures in
-    let e = decode-small (a .text .now) (a .body .now) (c .before .before .before .before .before .before .before .before .before .before .if1 .left) ∙ under-none _ _ _ (malformed-as _ _ (sym (s .0) ∙ c .before .before .before .before .before .sheet2 .given .1)) in
-    let w = refused _ (answer.Malformed (c .before .before .before .before .before .sheet2 .given .0 .0)) 1 _ 0 (a .out .now) _ e refl (c .before .before .clear-words2 .ensures) in
+    let e = decode-small (a .sheet .now) (a .body .now) (c .before .before .before .before .before .before .before .before .before .before .if1 .left) ∙ under-none _ _ _ (malformed-as _ _ (sym (s .0) ∙ c .before .before .before .before .before .read2 .given .1)) in
+    let w = refused _ (answer.Malformed (c .before .before .before .before .before .read2 .given .0 .0)) 1 _ 0 (a .out .now) _ e refl (c .before .before .clear-words2 .ensures) in
     (w .answer-is, w .words-are)
 
 pub decode-spec : {M : Type 1} → statement M
@@ -73,10 +73,10 @@ decode-spec =
     same-length
     returns
     read-sheet-requires
-    enum-known-sheet
+    enum-known-read
     sub-decode-under
     decode-under-requires
-    enum-known-sheet-2
+    enum-known-read-2
     clear-words-requires-2
     same-length-2
     returns-2

@@ -1,8 +1,8 @@
 use Rattle.decode.proofs.DecodeCases.{under-read, under-none}
 use Rattle.decode.proofs.BodyAnswers.{refused}
 use Rattle.sheet.proofs.UnderSheet.{read-as, malformed-as, some-opcode}
-use Rattle.decode_answer.specs.declared.DecodeAnswer.the-variants as answer
-use Rattle.decode_answer.specs.Answers.{decodeReport}
+use Rattle.decode.specs.declared.answer.DecodeAnswer.the-variants as answer
+use Rattle.decode.specs.Answers.{decodeReport}
 use Rattle.spec_body.specs.Operation.{decodeFunction}
 use native.Mathlib.Omega.{arith}
 use mathlib.Core.Path.{refl, sym, _∙_}
@@ -13,19 +13,19 @@ use Rattle.decode.proofs.instructions.decode_function.Tie as tie
 read-sheet-requires : tie.Need-read-sheet-requires
 read-sheet-requires c κs = search needs
 
-enum-known-sheet : tie.Need-enum-known-sheet
-enum-known-sheet c = search needs
+enum-known-read : tie.Need-enum-known-read
+enum-known-read c = search needs
 
 sub-function-under : tie.Need-sub-function-under
 sub-function-under c =
     let s = c .before .before .before .before .read-sheet .ensures in
-    omega (arith, some-opcode (c .before .before .before .before .before .before .before .before .before .before .before .args .text .now) _ (read-as _ _ _ _ _ (sym (s .0) ∙ c .before .before .sheet .given .1)))
+    omega (arith, some-opcode (c .before .before .before .before .before .before .before .before .before .before .before .args .sheet .now) _ (read-as _ _ _ _ _ (sym (s .0) ∙ c .before .before .read .given .1)))
 
 function-under-requires : tie.Need-function-under-requires
 function-under-requires c κs = search needs
 
-enum-known-sheet-2 : tie.Need-enum-known-sheet-2
-enum-known-sheet-2 c = search needs
+enum-known-read-2 : tie.Need-enum-known-read-2
+enum-known-read-2 c = search needs
 
 clear-words-requires : tie.Need-clear-words-requires
 clear-words-requires c κs = search needs
@@ -37,7 +37,7 @@ returns : tie.Need-returns
 unfolding decodeFunction
 returns c =
     let s = c .before .before .before .before .before .before .before .before .read-sheet .ensures in
-    let r = read-as _ _ _ _ _ (sym (s .0) ∙ c .before .before .before .before .before .before .sheet .given .1) in
+    let r = read-as _ _ _ _ _ (sym (s .0) ∙ c .before .before .before .before .before .before .read .given .1) in
     rw (under-read _ _ r _, sym (s .1 .0)) (c .before .before .function-under .ensures)
 
 same-length-2 : tie.Need-same-length-2
@@ -48,8 +48,8 @@ unfolding decodeFunction decodeReport
 returns-2 c =
     let a = c .before .before .before .before .before .before .before .before .before .before .before .before .before .before .args in
     let s = c .before .before .before .before .before .before .before .read-sheet .ensures in
-    let e = under-none _ _ _ (malformed-as _ _ (sym (s .0) ∙ c .before .before .before .before .before .sheet2 .given .1)) in
-    let w = refused _ (answer.Malformed (c .before .before .before .before .before .sheet2 .given .0 .0)) 1 _ 0 (a .out .now) _ e refl (c .before .before .clear-words .ensures) in
+    let e = under-none _ _ _ (malformed-as _ _ (sym (s .0) ∙ c .before .before .before .before .before .read2 .given .1)) in
+    let w = refused _ (answer.Malformed (c .before .before .before .before .before .read2 .given .0 .0)) 1 _ 0 (a .out .now) _ e refl (c .before .before .clear-words .ensures) in
     (w .answer-is, w .words-are)
 
 pub decode-function-spec : {M : Type 1} → statement M
@@ -57,10 +57,10 @@ decode-function-spec =
     tie.close
     (tie.spec
     read-sheet-requires
-    enum-known-sheet
+    enum-known-read
     sub-function-under
     function-under-requires
-    enum-known-sheet-2
+    enum-known-read-2
     clear-words-requires
     same-length
     returns

@@ -1,6 +1,6 @@
-use Rattle.decode_answer.specs.declared.DecodeAnswer.the-variants as answer
+use Rattle.decode.specs.declared.answer.DecodeAnswer.the-variants as answer
 use Rattle.decode.proofs.BodyAnswers.{too-few, enough, refused, was-beyond, was-cut}
-use Rattle.decode_answer.specs.Answers.{decodeReport}
+use Rattle.decode.specs.Answers.{decodeReport}
 use lib.ListN.{replicate}
 use Prim.Native.Nat.{ℕ}
 use mathlib.Core.Path.{refl, sym, _∙_, ap}

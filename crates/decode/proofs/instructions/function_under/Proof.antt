@@ -1,8 +1,8 @@
-use Rattle.area.proofs.AreaLaws.{triple, inside-base}
+use Rattle.operation.proofs.AreaLaws.{triple, inside-base}
 use Rattle.decode.proofs.DecodeCases.{function-none, function-large, function-body}
 use Rattle.decode.proofs.BodyAnswers.{refused}
-use Rattle.decode_answer.specs.declared.DecodeAnswer.the-variants as answer
-use Rattle.decode_answer.specs.Answers.{decodeReport}
+use Rattle.decode.specs.declared.answer.DecodeAnswer.the-variants as answer
+use Rattle.decode.specs.Answers.{decodeReport}
 use Rattle.spec_body.specs.Function.{inArea}
 use lib.ListN.{length}
 use mathlib.Core.Bool.{true}

@@ -17,7 +17,7 @@ largest-of-requires c κs = search needs
 
 encode-under-requires : tie.Need-encode-under-requires
 encode-under-requires c κs =
-    let t = c .before .before .before .before .before .before .before .before .before .before .before .before .args .text .now in
+    let t = c .before .before .before .before .before .before .before .before .before .before .before .before .args .sheet .now in
     omega (arith, c .before .before .largest-of .ensures, few-opcodes t _ (read-as _ _ _ _ _ (sym (c .before .before .before .before .before .before .read-sheet .ensures .0) ∙ c .before .before .before .before .s .given .1)))
 
 enum-known-s-2 : tie.Need-enum-known-s-2
@@ -33,7 +33,7 @@ returns : tie.Need-returns
 returns c =
     let a = c .before .before .before .before .before .before .before .before .before .before .before .before .before .before .before .args in
     let w = c .before .before .before .before .before .before .before .before .before .read-sheet .ensures in
-    rw (encode-read (a .text .now) (a .words .now) _ _ _ _ (sym (w .0) ∙ c .before .before .before .before .before .before .before .s .given .1), ← (w .1 .0), ← (c .before .before .before .before .before .largest-of .ensures)) (c .before .before .encode-under .ensures)
+    rw (encode-read (a .sheet .now) (a .words .now) _ _ _ _ (sym (w .0) ∙ c .before .before .before .before .before .before .before .s .given .1), ← (w .1 .0), ← (c .before .before .before .before .before .largest-of .ensures)) (c .before .before .encode-under .ensures)
 
 same-length-2 : tie.Need-same-length-2
 same-length-2 c = search needs
@@ -41,7 +41,7 @@ same-length-2 c = search needs
 returns-2 : tie.Need-returns-2
 returns-2 c =
     let a = c .before .before .before .before .before .before .before .before .before .before .before .before .before .args in
-    let e = encode-none (a .text .now) (a .words .now) _ (a .out .now) (sym (c .before .before .before .before .before .before .before .read-sheet .ensures .0) ∙ c .before .before .before .before .before .s2 .given .1) in
+    let e = encode-none (a .sheet .now) (a .words .now) _ (a .out .now) (sym (c .before .before .before .before .before .before .before .read-sheet .ensures .0) ∙ c .before .before .before .before .before .s2 .given .1) in
     (e .0, c .before .before .clear .ensures ∙ e .1)
 
 pub encode-spec : {M : Type 1} → statement M

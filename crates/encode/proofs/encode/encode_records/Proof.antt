@@ -1,7 +1,7 @@
 use mathlib.Core.Path.{refl}
 use native.Mathlib.Omega.{arith}
 use Prim.Native.Nat.{_-_}
-use Rattle.plain_records.proofs.AheadLaws.{ahead-length}
+use Rattle.encode.proofs.AheadLaws.{ahead-length}
 use Rattle.encode.proofs.RecordsLoop.{Going, start, turn, stops, cut, ended, other-tag}
 use borrow.Author.Needs.{needs}
 use Rattle.encode.proofs.encode.encode_records.Statement.{statement}
@@ -16,8 +16,8 @@ abbrev μ-loop : tie.MeasureT-loop
 code-table-requires : tie.Need-code-table-requires Inv-loop μ-loop
 code-table-requires c κs = search needs
 
-plain-counts-requires : tie.Need-plain-counts-requires Inv-loop μ-loop
-plain-counts-requires c κs = search needs
+canonical-counts-requires : tie.Need-canonical-counts-requires Inv-loop μ-loop
+canonical-counts-requires c κs = search needs
 
 loop-holds : tie.Need-loop-holds Inv-loop μ-loop
 loop-holds c =
@@ -76,7 +76,7 @@ encode-records-spec =
     Inv-loop
     μ-loop
     code-table-requires
-    plain-counts-requires
+    canonical-counts-requires
     loop-holds
     sub-encode-record
     sub-encode-record-2

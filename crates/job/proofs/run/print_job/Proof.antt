@@ -1,7 +1,7 @@
 use native.Mathlib.Omega.{arith}
-use Rattle.printed.proofs.PrintLaws.{line-prints}
-use Rattle.job_reader.proofs.ReadLaws.{was-edition, was-bad-edition, edition-fits, front}
-use Rattle.job.proofs.RunLaws.{list-prints, assemble-prints, edition-off}
+use Rattle.job.proofs.PrintLaws.{line-prints}
+use Rattle.job_read.proofs.ReadLaws.{was-inputs, was-bad-inputs, inputs-fits, front}
+use Rattle.job.proofs.RunLaws.{list-prints, assemble-prints, inputs-off}
 use borrow.Author.Needs.{needs}
 use Rattle.job.proofs.run.print_job.Statement.{statement}
 use Rattle.job.proofs.run.print_job.Tie as tie
@@ -12,14 +12,14 @@ string-space-requires c κs = search needs
 end-space-requires : tie.Need-end-space-requires
 end-space-requires c κs = search needs
 
-slice-aggregate-edition-at : tie.Need-slice-aggregate-edition-at
-slice-aggregate-edition-at c = search needs
+slice-aggregate-inputs-at : tie.Need-slice-aggregate-inputs-at
+slice-aggregate-inputs-at c = search needs
 
-slice-aggregate-edition-at-2 : tie.Need-slice-aggregate-edition-at-2
-slice-aggregate-edition-at-2 c = search needs
+slice-aggregate-inputs-at-2 : tie.Need-slice-aggregate-inputs-at-2
+slice-aggregate-inputs-at-2 c = search needs
 
-edition-at-requires : tie.Need-edition-at-requires
-edition-at-requires c κs = search needs
+inputs-at-requires : tie.Need-inputs-at-requires
+inputs-at-requires c κs = search needs
 
 enum-known-e : tie.Need-enum-known-e
 enum-known-e c = search needs
@@ -31,22 +31,22 @@ part-texts-start : tie.Need-part-texts-start
 part-texts-start c = search needs
 
 part-texts-end : tie.Need-part-texts-end
-part-texts-end c = omega (arith, edition-fits (c .before .before .before .before .before .before .before .before .before .before .before .before .before .before .before .args .job .now) (c .before .before .before .before .before .before .before .before .before .before .before .before .before .before .before .args .start) (was-edition (c .before .before .before .before .before .before .edition-at .ensures) (c .before .before .e .given .1)) (c .before .before .before .before .before .before .before .before .before .before .before .before .before .before .before .pre .0) .1)
+part-texts-end c = omega (arith, inputs-fits (c .before .before .before .before .before .before .before .before .before .before .before .before .before .before .before .args .job .now) (c .before .before .before .before .before .before .before .before .before .before .before .before .before .before .before .args .start) (was-inputs (c .before .before .before .before .before .before .inputs-at .ensures) (c .before .before .e .given .1)) (c .before .before .before .before .before .before .before .before .before .before .before .before .before .before .before .pre .0) .1)
 
-sub-marks : tie.Need-sub-marks
-sub-marks c = search needs
+sub-table-ends : tie.Need-sub-table-ends
+sub-table-ends c = search needs
 
-part-marks-start : tie.Need-part-marks-start
-part-marks-start c = search needs
+part-table-ends-start : tie.Need-part-table-ends-start
+part-table-ends-start c = search needs
 
-part-marks-end : tie.Need-part-marks-end
-part-marks-end c = omega (arith, edition-fits (c .before .before .before .before .before .before .before .before .before .before .before .before .before .before .before .before .before .args .job .now) (c .before .before .before .before .before .before .before .before .before .before .before .before .before .before .before .before .before .args .start) (was-edition (c .before .before .before .before .before .before .before .before .edition-at .ensures) (c .before .before .before .before .e .given .1)) (c .before .before .before .before .before .before .before .before .before .before .before .before .before .before .before .before .before .pre .0) .0)
+part-table-ends-end : tie.Need-part-table-ends-end
+part-table-ends-end c = omega (arith, inputs-fits (c .before .before .before .before .before .before .before .before .before .before .before .before .before .before .before .before .before .args .job .now) (c .before .before .before .before .before .before .before .before .before .before .before .before .before .before .before .before .before .args .start) (was-inputs (c .before .before .before .before .before .before .before .before .inputs-at .ensures) (c .before .before .before .before .e .given .1)) (c .before .before .before .before .before .before .before .before .before .before .before .before .before .before .before .before .before .pre .0) .0)
 
 print-list-requires : tie.Need-print-list-requires
-print-list-requires c κs = let f = edition-fits (c .before .before .before .before .before .before .before .before .before .before .before .before .before .before .before .before .before .before .before .before .before .before .args .job .now) (c .before .before .before .before .before .before .before .before .before .before .before .before .before .before .before .before .before .before .before .before .before .before .args .start) (was-edition (c .before .before .before .before .before .before .before .before .before .before .before .before .before .edition-at .ensures) (c .before .before .before .before .before .before .before .before .before .e .given .1)) (c .before .before .before .before .before .before .before .before .before .before .before .before .before .before .before .before .before .before .before .before .before .before .pre .0) in (c .before .before .before .before .before .before .before .before .before .before .before .before .before .before .before .before .before .before .before .before .before .before .pre .0, f .2, c .before .before .before .before .before .before .before .before .before .before .before .before .before .before .before .before .before .before .before .before .before .before .pre .1, c .before .before .before .before .before .before .before .before .before .before .before .before .before .before .before .before .before .before .before .before .before .before .pre .2)
+print-list-requires c κs = let f = inputs-fits (c .before .before .before .before .before .before .before .before .before .before .before .before .before .before .before .before .before .before .before .before .before .before .args .job .now) (c .before .before .before .before .before .before .before .before .before .before .before .before .before .before .before .before .before .before .before .before .before .before .args .start) (was-inputs (c .before .before .before .before .before .before .before .before .before .before .before .before .before .inputs-at .ensures) (c .before .before .before .before .before .before .before .before .before .e .given .1)) (c .before .before .before .before .before .before .before .before .before .before .before .before .before .before .before .before .before .before .before .before .before .before .pre .0) in (c .before .before .before .before .before .before .before .before .before .before .before .before .before .before .before .before .before .before .before .before .before .before .pre .0, f .2, c .before .before .before .before .before .before .before .before .before .before .before .before .before .before .before .before .before .before .before .before .before .before .pre .1, c .before .before .before .before .before .before .before .before .before .before .before .before .before .before .before .before .before .before .before .before .before .before .pre .2)
 
 print-assembled-requires : tie.Need-print-assembled-requires
-print-assembled-requires c κs = let f = edition-fits (c .before .before .before .before .before .before .before .before .before .before .before .before .before .before .before .before .before .before .before .before .before .before .args .job .now) (c .before .before .before .before .before .before .before .before .before .before .before .before .before .before .before .before .before .before .before .before .before .before .args .start) (was-edition (c .before .before .before .before .before .before .before .before .before .before .before .before .before .edition-at .ensures) (c .before .before .before .before .before .before .before .before .before .e .given .1)) (c .before .before .before .before .before .before .before .before .before .before .before .before .before .before .before .before .before .before .before .before .before .before .pre .0) in (c .before .before .before .before .before .before .before .before .before .before .before .before .before .before .before .before .before .before .before .before .before .before .pre .0, omega (arith, f .0))
+print-assembled-requires c κs = let f = inputs-fits (c .before .before .before .before .before .before .before .before .before .before .before .before .before .before .before .before .before .before .before .before .before .before .args .job .now) (c .before .before .before .before .before .before .before .before .before .before .before .before .before .before .before .before .before .before .before .before .before .before .args .start) (was-inputs (c .before .before .before .before .before .before .before .before .before .before .before .before .before .inputs-at .ensures) (c .before .before .before .before .before .before .before .before .before .e .given .1)) (c .before .before .before .before .before .before .before .before .before .before .before .before .before .before .before .before .before .before .before .before .before .before .pre .0) in (c .before .before .before .before .before .before .before .before .before .before .before .before .before .before .before .before .before .before .before .before .before .before .pre .0, omega (arith, f .0))
 
 enum-known-e-2 : tie.Need-enum-known-e-2
 enum-known-e-2 c = search needs
@@ -58,19 +58,19 @@ same-length : tie.Need-same-length
 same-length c = search needs
 
 returns : tie.Need-returns
-returns c = let x = c .before .before .before .before .before .before .before .before .before .before .before .before .before .before .before .before .before .before .before .before .before .before .before .before .before .args in let w = was-edition (c .before .before .before .before .before .before .before .before .before .before .before .before .before .before .before .before .edition-at .ensures) (c .before .before .before .before .before .before .before .before .before .before .before .before .e .given .1) in let f = edition-fits (x .job .now) (x .start) w (c .before .before .before .before .before .before .before .before .before .before .before .before .before .before .before .before .before .before .before .before .before .before .before .before .before .pre .0) in list-prints (x .job .now) (x .start) w (c .before .before .before .before .before .before .before .before .before .before .before .before .before .before .before .before .before .before .before .before .before .before .before .before .before .pre .0) (x .lists) _ _ (front (c .before .before .before .before .before .before .before .before .before .before .before .before .e .given .0 .1 .1 .1 .1 .0) (c .before .before .before .before .before .before .before .before .before .before .before .before .before .before .before .before .edition-at .last .1 .1 .1 .1 .1 .0)) (front (c .before .before .before .before .before .before .before .before .before .before .before .before .e .given .0 .1 .1 .1 .0) (c .before .before .before .before .before .before .before .before .before .before .before .before .before .before .before .before .edition-at .last .1 .1 .1 .1 .1 .1 .0)) (omega (arith, f .1)) (omega (arith, f .0)) _ _ _ (c .before .before .before .before .before .before .if1 .taken) (c .before .before .print-list .ensures)
+returns c = let x = c .before .before .before .before .before .before .before .before .before .before .before .before .before .before .before .before .before .before .before .before .before .before .before .before .before .args in let w = was-inputs (c .before .before .before .before .before .before .before .before .before .before .before .before .before .before .before .before .inputs-at .ensures) (c .before .before .before .before .before .before .before .before .before .before .before .before .e .given .1) in let f = inputs-fits (x .job .now) (x .start) w (c .before .before .before .before .before .before .before .before .before .before .before .before .before .before .before .before .before .before .before .before .before .before .before .before .before .pre .0) in list-prints (x .job .now) (x .start) w (c .before .before .before .before .before .before .before .before .before .before .before .before .before .before .before .before .before .before .before .before .before .before .before .before .before .pre .0) (x .lists) _ _ (front (c .before .before .before .before .before .before .before .before .before .before .before .before .e .given .0 .1 .1 .1 .1 .0) (c .before .before .before .before .before .before .before .before .before .before .before .before .before .before .before .before .inputs-at .last .1 .1 .1 .1 .1 .0)) (front (c .before .before .before .before .before .before .before .before .before .before .before .before .e .given .0 .1 .1 .1 .0) (c .before .before .before .before .before .before .before .before .before .before .before .before .before .before .before .before .inputs-at .last .1 .1 .1 .1 .1 .1 .0)) (omega (arith, f .1)) (omega (arith, f .0)) _ _ _ (c .before .before .before .before .before .before .if1 .taken) (c .before .before .print-list .ensures)
 
 same-length-2 : tie.Need-same-length-2
 same-length-2 c = search needs
 
 returns-2 : tie.Need-returns-2
-returns-2 c = let x = c .before .before .before .before .before .before .before .before .before .before .before .before .before .before .before .before .before .before .before .before .before .before .before .before .before .args in let w = was-edition (c .before .before .before .before .before .before .before .before .before .before .before .before .before .before .before .before .edition-at .ensures) (c .before .before .before .before .before .before .before .before .before .before .before .before .e .given .1) in let f = edition-fits (x .job .now) (x .start) w (c .before .before .before .before .before .before .before .before .before .before .before .before .before .before .before .before .before .before .before .before .before .before .before .before .before .pre .0) in assemble-prints (x .job .now) (x .start) w (c .before .before .before .before .before .before .before .before .before .before .before .before .before .before .before .before .before .before .before .before .before .before .before .before .before .pre .0) (x .lists) _ _ (front (c .before .before .before .before .before .before .before .before .before .before .before .before .e .given .0 .1 .1 .1 .1 .0) (c .before .before .before .before .before .before .before .before .before .before .before .before .before .before .before .before .edition-at .last .1 .1 .1 .1 .1 .0)) (front (c .before .before .before .before .before .before .before .before .before .before .before .before .e .given .0 .1 .1 .1 .0) (c .before .before .before .before .before .before .before .before .before .before .before .before .before .before .before .before .edition-at .last .1 .1 .1 .1 .1 .1 .0)) (omega (arith, f .1)) (omega (arith, f .0)) _ _ _ (c .before .before .before .before .before .before .if1 .left) (c .before .before .print-assembled .ensures)
+returns-2 c = let x = c .before .before .before .before .before .before .before .before .before .before .before .before .before .before .before .before .before .before .before .before .before .before .before .before .before .args in let w = was-inputs (c .before .before .before .before .before .before .before .before .before .before .before .before .before .before .before .before .inputs-at .ensures) (c .before .before .before .before .before .before .before .before .before .before .before .before .e .given .1) in let f = inputs-fits (x .job .now) (x .start) w (c .before .before .before .before .before .before .before .before .before .before .before .before .before .before .before .before .before .before .before .before .before .before .before .before .before .pre .0) in assemble-prints (x .job .now) (x .start) w (c .before .before .before .before .before .before .before .before .before .before .before .before .before .before .before .before .before .before .before .before .before .before .before .before .before .pre .0) (x .lists) _ _ (front (c .before .before .before .before .before .before .before .before .before .before .before .before .e .given .0 .1 .1 .1 .1 .0) (c .before .before .before .before .before .before .before .before .before .before .before .before .before .before .before .before .inputs-at .last .1 .1 .1 .1 .1 .0)) (front (c .before .before .before .before .before .before .before .before .before .before .before .before .e .given .0 .1 .1 .1 .0) (c .before .before .before .before .before .before .before .before .before .before .before .before .before .before .before .before .inputs-at .last .1 .1 .1 .1 .1 .1 .0)) (omega (arith, f .1)) (omega (arith, f .0)) _ _ _ (c .before .before .before .before .before .before .if1 .left) (c .before .before .print-assembled .ensures)
 
 same-length-3 : tie.Need-same-length-3
 same-length-3 c = search needs
 
 returns-3 : tie.Need-returns-3
-returns-3 c = let x = c .before .before .before .before .before .before .before .before .before .before .before .before .before .before .before .before .before .before .args in line-prints (x .job .now) (edition-off (x .job .now) (x .start) _ (x .lists) (was-bad-edition (c .before .before .before .before .before .before .before .before .before .edition-at .ensures) (c .before .before .before .before .before .e2 .given .1))) (c .before .before .refused .ensures)
+returns-3 c = let x = c .before .before .before .before .before .before .before .before .before .before .before .before .before .before .before .before .before .before .args in line-prints (x .job .now) (inputs-off (x .job .now) (x .start) _ (x .lists) (was-bad-inputs (c .before .before .before .before .before .before .before .before .before .inputs-at .ensures) (c .before .before .before .before .before .e2 .given .1))) (c .before .before .refused .ensures)
 
 pub print-job-spec : {M : Type 1} → statement M
 print-job-spec =
@@ -78,16 +78,16 @@ print-job-spec =
     (tie.spec
     string-space-requires
     end-space-requires
-    slice-aggregate-edition-at
-    slice-aggregate-edition-at-2
-    edition-at-requires
+    slice-aggregate-inputs-at
+    slice-aggregate-inputs-at-2
+    inputs-at-requires
     enum-known-e
     sub-texts
     part-texts-start
     part-texts-end
-    sub-marks
-    part-marks-start
-    part-marks-end
+    sub-table-ends
+    part-table-ends-start
+    part-table-ends-end
     print-list-requires
     print-assembled-requires
     enum-known-e-2

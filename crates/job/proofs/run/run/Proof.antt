@@ -1,8 +1,8 @@
 use mathlib.Core.Path.{refl, sym, _∙_}
 use native.Mathlib.Omega.{arith}
-use Rattle.job_reader.specs.declared.reader.Asked.the-variants as jobs
-use Rattle.job_reader.proofs.AskedLaws.{readAs}
-use Rattle.printed.proofs.PrintLaws.{line-prints}
+use Rattle.job_read.specs.declared.reader.Asked.the-variants as jobs
+use Rattle.job_read.proofs.AskedLaws.{readAs}
+use Rattle.job.proofs.PrintLaws.{line-prints}
 use Rattle.job.proofs.RunLaws.{still-zeros, large-holds, job-holds, job-none}
 use borrow.Author.Needs.{needs}
 use Rattle.job.proofs.run.run.Statement.{statement}

@@ -6,8 +6,8 @@ use borrow.Author.Needs.{needs}
 use Rattle.listing.proofs.body.list_body.Statement.{statement}
 use Rattle.listing.proofs.body.list_body.Tie as tie
 
-few-marks-requires : tie.Need-few-marks-requires
-few-marks-requires c κs = search needs
+few-flags-requires : tie.Need-few-flags-requires
+few-flags-requires c κs = search needs
 
 slice-aggregate-clear : tie.Need-slice-aggregate-clear
 slice-aggregate-clear c = search needs
@@ -15,11 +15,11 @@ slice-aggregate-clear c = search needs
 clear-requires : tie.Need-clear-requires
 clear-requires c κs = search needs
 
-slice-aggregate-list-marked : tie.Need-slice-aggregate-list-marked
-slice-aggregate-list-marked c = search needs
+slice-aggregate-list-flagged : tie.Need-slice-aggregate-list-flagged
+slice-aggregate-list-flagged c = search needs
 
-list-marked-requires : tie.Need-list-marked-requires
-list-marked-requires c κs = let w = c .before .before .before .clear in let q = c .before .before .before .before .before .before .before .before .before .before .before .before .before .pre in let h : length (c .before .before .before .before .before .few-marks .result) ≡ 4096 = search needs in (zeroed (c .before .before .before .before .before .few-marks .result) _ (w .ensures), (omega (arith, h, cleared-size (c .before .before .before .before .before .few-marks .result) _ (w .ensures), c .before .before .before .before .before .before .if1 .taken), q .0, q .1, q .2))
+list-flagged-requires : tie.Need-list-flagged-requires
+list-flagged-requires c κs = let w = c .before .before .before .clear in let q = c .before .before .before .before .before .before .before .before .before .before .before .before .before .pre in let h : length (c .before .before .before .before .before .few-flags .result) ≡ 4096 = search needs in (zeroed (c .before .before .before .before .before .few-flags .result) _ (w .ensures), (omega (arith, h, cleared-size (c .before .before .before .before .before .few-flags .result) _ (w .ensures), c .before .before .before .before .before .before .if1 .taken), q .0, q .1, q .2))
 
 same-length : tie.Need-same-length
 same-length c = search needs
@@ -27,8 +27,8 @@ same-length c = search needs
 returns : tie.Need-returns
 returns c = search needs
 
-all-marks-requires : tie.Need-all-marks-requires
-all-marks-requires c κs = search needs
+all-flags-requires : tie.Need-all-flags-requires
+all-flags-requires c κs = search needs
 
 slice-aggregate-clear-2 : tie.Need-slice-aggregate-clear-2
 slice-aggregate-clear-2 c = search needs
@@ -36,11 +36,11 @@ slice-aggregate-clear-2 c = search needs
 clear-requires-2 : tie.Need-clear-requires-2
 clear-requires-2 c κs = search needs
 
-slice-aggregate-list-marked-2 : tie.Need-slice-aggregate-list-marked-2
-slice-aggregate-list-marked-2 c = search needs
+slice-aggregate-list-flagged-2 : tie.Need-slice-aggregate-list-flagged-2
+slice-aggregate-list-flagged-2 c = search needs
 
-list-marked-requires-2 : tie.Need-list-marked-requires-2
-list-marked-requires-2 c κs = let w = c .before .before .before .clear2 in let q = c .before .before .before .before .before .before .before .before .before .before .before .before .before .pre in let h : length (c .before .before .before .before .before .all-marks .result) ≡ 65536 = search needs in (zeroed (c .before .before .before .before .before .all-marks .result) _ (w .ensures), (omega (arith, h, cleared-size (c .before .before .before .before .before .all-marks .result) _ (w .ensures), q .0), q .0, q .1, q .2))
+list-flagged-requires-2 : tie.Need-list-flagged-requires-2
+list-flagged-requires-2 c κs = let w = c .before .before .before .clear2 in let q = c .before .before .before .before .before .before .before .before .before .before .before .before .before .pre in let h : length (c .before .before .before .before .before .all-flags .result) ≡ 65536 = search needs in (zeroed (c .before .before .before .before .before .all-flags .result) _ (w .ensures), (omega (arith, h, cleared-size (c .before .before .before .before .before .all-flags .result) _ (w .ensures), q .0), q .0, q .1, q .2))
 
 same-length-2 : tie.Need-same-length-2
 same-length-2 c = search needs
@@ -52,17 +52,17 @@ pub list-body-spec : {M : Type 1} → statement M
 list-body-spec =
     tie.close
     (tie.spec
-    few-marks-requires
+    few-flags-requires
     slice-aggregate-clear
     clear-requires
-    slice-aggregate-list-marked
-    list-marked-requires
+    slice-aggregate-list-flagged
+    list-flagged-requires
     same-length
     returns
-    all-marks-requires
+    all-flags-requires
     slice-aggregate-clear-2
     clear-requires-2
-    slice-aggregate-list-marked-2
-    list-marked-requires-2
+    slice-aggregate-list-flagged-2
+    list-flagged-requires-2
     same-length-2
     returns-2)

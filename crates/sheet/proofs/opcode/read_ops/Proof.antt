@@ -3,8 +3,8 @@ use mathlib.Core.Path.{sym, _∙_, ap}
 use Prim.Native.Nat.{_-_}
 use native.Mathlib.Omega.{arith}
 use Rattle.sheet.specs.Sheets.{opsOf}
-use Rattle.sheet_rows.specs.Marks.{Marked}
-use Rattle.sheet_rows.proofs.MarkLaws.{none-marked}
+use Rattle.sheet.specs.NameFilter.{Filtered}
+use Rattle.sheet.proofs.FilterLaws.{none-marked}
 use Rattle.sheet.proofs.OpsLoop.{Going, start, ended, stopped, small, turn, not-all, tables}
 use Prim.Native.Nat.{ℕ}
 use Rattle.sheet.specs.declared.opcode.Ops.the-variants.{All}
@@ -13,10 +13,10 @@ use Rattle.sheet.proofs.opcode.read_ops.Statement.{statement}
 use Rattle.sheet.proofs.opcode.read_ops.Tie as tie
 
 abbrev Inv-loop : tie.InvT-loop
-Inv-loop s from count types₀ ops₀ marks₀ at₀ least₀ i₀ types ops marks at least i = Going s types ops «from» count at least i × Marked s marks ops
+Inv-loop s from count types₀ ops₀ marks₀ at₀ least₀ i₀ types ops filter at least i = Going s types ops «from» count at least i × Filtered s filter ops
 
 abbrev μ-loop : tie.MeasureT-loop
-μ-loop s from count types₀ ops₀ marks₀ at₀ least₀ i₀ types ops marks at least i = count - i
+μ-loop s from count types₀ ops₀ marks₀ at₀ least₀ i₀ types ops filter at least i = count - i
 
 loop-holds : tie.Need-loop-holds Inv-loop μ-loop
 loop-holds c =

@@ -2,7 +2,7 @@ use Rattle.sheet.specs.Sheets.{sheetAnswer, typesIn, infosIn}
 use Rattle.sheet.specs.declared.opcode.Sheet.{Sheet}
 use Rattle.spec_sheet.specs.Sheet.{SheetRead}
 use Rattle.sheet.proofs.SheetAnswers.{Answers, refused, whole, fault-inside, fault-line}
-use Rattle.sheet_line.proofs.AnswerLaws.{was-next, was-off}
+use Rattle.sheet.proofs.AnswerLaws.{was-next, was-off}
 use Rattle.spec_sheet.proofs.SheetLaws.{no-version, no-count, count-zero, with-ops}
 use Rattle.spec_sheet.proofs.ScanLaws.{keyed-bound}
 use Rattle.spec_sheet.specs.Scan.{lineEnd}

@@ -1,0 +1,81 @@
+// Assembling a text.
+ghost use mathlib.Core.Path.{_≡_};
+ghost use mathlib.Core.List.{[], _∷_};
+ghost use Prim.Native.Nat.{_≤_};
+ghost use lib.ListN.{length, replicate};
+ghost use Rattle.spec_hasm.specs.Operation as operation;
+ghost use Rattle.spec_inputs.specs.Context.{contextFrom};
+ghost use Rattle.assemble.specs.Answers.{Ended};
+ghost use Rattle.assemble.specs.Passes.{textOutcome, IdSpace};
+use crate::answer::AssembleAnswer;
+use hasm_labels::label_entry::Slot;
+use operation::inputs::Inputs;
+use slices::clearing::clear_labels;
+use slices::write::clear;
+
+// Space for the index of the texts: a small table has a small one, as clearing a large one takes longer than a short text. No
+// contract, since the types say the lengths.
+fn few_ids() -> [u32; 256] {
+    [0; 256]
+}
+
+fn all_ids() -> [u32; limits::STRING_LIMIT] {
+    [0; limits::STRING_LIMIT]
+}
+
+// Assembles a text under a sheet given as text and a string table. A label entry is lent for each label that is taken.
+pub fn assemble(
+    sheet: &[u8],
+    bytes: &[u8],
+    ends: &[u32],
+    text: &[u8],
+    out: &mut [u8],
+    labels: &mut [Slot],
+) -> AssembleAnswer
+    ensures { λ r. ⌜ Ended (operation.assemble (now (sheet .entry)) (now (bytes .entry)) (now (ends .entry)) (now (text .entry)) (length (now (labels .entry)))) (now (out .entry)) (now (out .exit)) r ⌝ }
+    ensures { λ _. ⌜ now (labels .exit) ≡ replicate (length (now (labels .entry))) (0 ∷ 0 ∷ 0 ∷ []) ⌝ }
+{
+    if limits::TEXT_LIMIT < text.len() {
+        clear(out);
+        clear_labels(labels);
+        return AssembleAnswer::TooLarge;
+    }
+    let mut types = [[0u8; 8]; 256];
+    let mut ops = [[0usize; 4]; 256];
+    let i = operation::inputs::read_inputs(sheet, bytes, ends, &mut types, &mut ops);
+    let Inputs::Ready(_) = i else {
+        clear(out);
+        clear_labels(labels);
+        return crate::answer::refused_inputs(i);
+    };
+    if ends.len() <= 256 {
+        let mut few_first = few_ids();
+        let mut few_next = few_ids();
+        return crate::passes::assemble_under(
+            &mut few_first,
+            &mut few_next,
+            sheet,
+            &types,
+            &ops,
+            bytes,
+            ends,
+            text,
+            out,
+            labels,
+        );
+    }
+    let mut first_ids = all_ids();
+    let mut next_ids = all_ids();
+    crate::passes::assemble_under(
+        &mut first_ids,
+        &mut next_ids,
+        sheet,
+        &types,
+        &ops,
+        bytes,
+        ends,
+        text,
+        out,
+        labels,
+    )
+}

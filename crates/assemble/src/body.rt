@@ -1,0 +1,77 @@
+// All instructions of a text as bytes.
+ghost use mathlib.Core.Path.{_≡_};
+ghost use Prim.Native.Nat.{_≤_};
+ghost use lib.ListN.{length};
+ghost use Rattle.limits.specs.Limits.{lineLimit};
+ghost use Rattle.spec_hasm.specs.Text.{linesOf};
+ghost use Rattle.spec_hasm.specs.Assemble.{Assembled, unlessBadLine, codesOf, bytesFrom};
+ghost use Rattle.strings.specs.Keys.{TextsIndexed};
+ghost use Rattle.assemble.specs.Contexts.{labelsOf, LabelsKnown};
+ghost use Rattle.spec_inputs.specs.Context.{contextFrom};
+ghost use Rattle.assemble.specs.Bodies.{BytesPut};
+use hasm_labels::label_entry::Slot;
+
+// The length of the body; or the number, the line and the operand that refuse it.
+pub enum Bytes {
+    Written(usize),
+    Refused(u64, usize, usize),
+}
+
+// Writes the instructions of a text whose lines and names are good.
+pub fn put_instructions(
+    bytes: &[u8],
+    ends: &[u32],
+    text_heads: &[u32],
+    text_nexts: &[u32],
+    text: &[u8],
+    sheet: &[u8],
+    types: &[[u8; 8]; 256],
+    ops: &[[usize; 4]; 256],
+    heads: &[u32],
+    nexts: &[u32],
+    labels: &[Slot],
+    fits: bool,
+    work: &mut [u8],
+    out: &mut [u8],
+) -> Bytes
+    requires { ⌜ TextsIndexed (now bytes) (now ends) (now «text_heads») (now «text_nexts») × (lineLimit ≤ length (now work)) ⌝ }
+    requires { ⌜ LabelsKnown (now text) (now sheet) (now types) (now ops) (now heads) (now nexts) (now labels) fits ⌝ }
+    requires { ⌜ ((rest : Assembled) → unlessBadLine 1 (linesOf (now text)) rest ≡ rest) ⌝ }
+    ensures { λ r. ⌜ BytesPut (bytesFrom (contextFrom (now (sheet .entry)) (now (types .entry)) (now (ops .entry)) (now (bytes .entry)) (now (ends .entry))) (labelsOf (contextFrom (now (sheet .entry)) (now (types .entry)) (now (ops .entry)) (now (bytes .entry)) (now (ends .entry))) (now (text .entry))) 0 (codesOf (contextFrom (now (sheet .entry)) (now (types .entry)) (now (ops .entry)) (now (bytes .entry)) (now (ends .entry))) (now (text .entry)))) (now (out .entry)) (now (out .exit)) r ⌝ }
+{
+    let mut k: usize = 0;
+    let mut offset: usize = 0;
+    let mut at: usize = 0;
+    let mut n: usize = 1;
+    while at < text.len() {
+        let end = hasm_read::lines::line_end(text, at);
+        let p = crate::instruction::put_line(
+            at,
+            end,
+            offset,
+            bytes,
+            ends,
+            text_heads,
+            text_nexts,
+            text,
+            sheet,
+            types,
+            ops,
+            heads,
+            nexts,
+            labels,
+            fits,
+            work,
+            out,
+            k,
+        );
+        if p.stopped {
+            return Bytes::Refused(p.number, n, p.operand);
+        }
+        k = p.k;
+        offset = p.offset;
+        at = end + 1;
+        n += 1;
+    }
+    Bytes::Written(k)
+}

@@ -1,0 +1,182 @@
+// One instruction of a text as bytes.
+ghost use mathlib.Core.Path.{_≡_};
+ghost use mathlib.Core.List.{List};
+ghost use Prim.Native.Nat.{ℕ, _+_, _≤_, _<_};
+ghost use lib.ListN.{length};
+ghost use Rattle.limits.specs.Limits.{lineLimit};
+ghost use Rattle.lists.specs.Found as searched;
+ghost use Rattle.slices.specs.Answers.{foundOf};
+ghost use Rattle.spec_hasm.specs.Assemble.{foundIn};
+ghost use Rattle.strings.specs.Keys.{TextsIndexed};
+ghost use Rattle.assemble.specs.Contexts.{labelsOf, LabelsKnown};
+ghost use Rattle.spec_inputs.specs.Context.{contextFrom};
+ghost use Rattle.assemble.specs.BodyPuts.{InstructionPut};
+ghost use Rattle.assemble.specs.Going.{Going, LineAt, Turned};
+use crate::operands::Operands;
+use hasm_labels::label_entry::Slot;
+use hasm_read::statement::Statement;
+use slices::search::Found;
+use slices::write::put_byte;
+
+// Where the output and the offset stand behind an instruction or a line; or that it is refused, by which number and operand.
+pub struct Progress {
+    pub k: usize,
+    pub offset: usize,
+    pub stopped: bool,
+    pub number: u64,
+    pub operand: usize,
+}
+
+// The opcode that was found. Names that the sheet lacks are refused before.
+fn opcode_in(f: Found) -> usize
+    ensures { λ r. ⌜ ((x : searched.Found) → f ≡ foundOf x → r ≡ foundIn x) ⌝ }
+{
+    match f {
+        Found::At(k) => k,
+        Found::Missing => 0,
+    }
+}
+
+// Writes the instruction whose name and operands are s, at `offset`.
+pub fn put_instruction(
+    s: &[u8],
+    offset: usize,
+    bytes: &[u8],
+    ends: &[u32],
+    text_heads: &[u32],
+    text_nexts: &[u32],
+    text: &[u8],
+    sheet: &[u8],
+    types: &[[u8; 8]; 256],
+    ops: &[[usize; 4]; 256],
+    heads: &[u32],
+    nexts: &[u32],
+    labels: &[Slot],
+    fits: bool,
+    work: &mut [u8],
+    out: &mut [u8],
+    k: usize,
+) -> Progress
+    requires { ⌜ TextsIndexed (now bytes) (now ends) (now «text_heads») (now «text_nexts») × (length (now s) ≤ lineLimit) × (lineLimit ≤ length (now work)) ⌝ }
+    requires { ⌜ (offset < 2147483648) × LabelsKnown (now text) (now sheet) (now types) (now ops) (now heads) (now nexts) (now labels) fits ⌝ }
+    ensures { λ r. ⌜ InstructionPut (contextFrom (now (sheet .entry)) (now (types .entry)) (now (ops .entry)) (now (bytes .entry)) (now (ends .entry))) (labelsOf (contextFrom (now (sheet .entry)) (now (types .entry)) (now (ops .entry)) (now (bytes .entry)) (now (ends .entry))) (now (text .entry))) (now (s .entry)) offset (now (out .entry)) k (now (out .exit)) r ⌝ }
+    ensures { λ r. ⌜ r .offset ≤ offset + 65 ⌝ }
+{
+    let n = hasm_read::white_space::skip(s, 0, false);
+    let opcode = opcode_in(sheet::name_index::find_indexed(sheet, ops, heads, nexts, &s[0..n]));
+    // An opcode that was found has a row, so this test only shows that it is below 256.
+    let rows: &[[usize; 4]] = ops;
+    if rows.len() <= opcode {
+        return Progress {
+            k,
+            offset,
+            stopped: true,
+            number: 4,
+            operand: 0,
+        };
+    }
+    let row = types[opcode];
+    let a = hasm_read::white_space::skip(s, n, true);
+    let b = put_byte(out, k, opcode as u8);
+    let o = crate::operands::put_operands(
+        &s[a..],
+        row,
+        offset,
+        bytes,
+        ends,
+        text_heads,
+        text_nexts,
+        text,
+        sheet,
+        types,
+        ops,
+        heads,
+        nexts,
+        labels,
+        fits,
+        work,
+        out,
+        b,
+    );
+    match o {
+        Operands::Written(next) => Progress {
+            k: next,
+            offset: offset + decode::record::instruction_length(row),
+            stopped: false,
+            number: 0,
+            operand: 0,
+        },
+        Operands::Refused(number, operand) => Progress {
+            k,
+            offset,
+            stopped: true,
+            number,
+            operand,
+        },
+    }
+}
+
+// Writes the line from `at` to its end, if it is an instruction.
+pub fn put_line(
+    at: usize,
+    end: usize,
+    offset: usize,
+    bytes: &[u8],
+    ends: &[u32],
+    text_heads: &[u32],
+    text_nexts: &[u32],
+    text: &[u8],
+    sheet: &[u8],
+    types: &[[u8; 8]; 256],
+    ops: &[[usize; 4]; 256],
+    heads: &[u32],
+    nexts: &[u32],
+    labels: &[Slot],
+    fits: bool,
+    work: &mut [u8],
+    out: &mut [u8],
+    k: usize,
+) -> Progress
+    requires { ⌜ TextsIndexed (now bytes) (now ends) (now «text_heads») (now «text_nexts») × (lineLimit ≤ length (now work)) ⌝ }
+    requires { ⌜ LineAt (now text) at end offset × LabelsKnown (now text) (now sheet) (now types) (now ops) (now heads) (now nexts) (now labels) fits ⌝ }
+    ensures { λ r. ⌜ ((out₀ : List ℕ) (n : ℕ) → Going (contextFrom (now (sheet .entry)) (now (types .entry)) (now (ops .entry)) (now (bytes .entry)) (now (ends .entry))) (labelsOf (contextFrom (now (sheet .entry)) (now (types .entry)) (now (ops .entry)) (now (bytes .entry)) (now (ends .entry))) (now (text .entry))) (now (text .entry)) out₀ (now (out .entry)) k at n offset → Turned (contextFrom (now (sheet .entry)) (now (types .entry)) (now (ops .entry)) (now (bytes .entry)) (now (ends .entry))) (labelsOf (contextFrom (now (sheet .entry)) (now (types .entry)) (now (ops .entry)) (now (bytes .entry)) (now (ends .entry))) (now (text .entry))) (now (text .entry)) out₀ (now (out .exit)) (end + 1) n r) ⌝ }
+    ensures { λ r. ⌜ r .offset ≤ offset + 65 ⌝ }
+{
+    let line = hasm_read::lines::line_of(text, at, end);
+    let statement = hasm_read::statement::read_statement(line, sheet, ops, heads, nexts);
+    match statement {
+        Statement::Nothing => Progress {
+            k,
+            offset,
+            stopped: false,
+            number: 0,
+            operand: 0,
+        },
+        Statement::Label(_, _) => Progress {
+            k,
+            offset,
+            stopped: false,
+            number: 0,
+            operand: 0,
+        },
+        Statement::Instruction(a, b) => put_instruction(
+            &line[a..b],
+            offset,
+            bytes,
+            ends,
+            text_heads,
+            text_nexts,
+            text,
+            sheet,
+            types,
+            ops,
+            heads,
+            nexts,
+            labels,
+            fits,
+            work,
+            out,
+            k,
+        ),
+    }
+}

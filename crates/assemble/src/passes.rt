@@ -1,0 +1,218 @@
+// The passes over a text, in document 01's order: 3 and 2, then 4 and 5, then 6 to 12, then 18 and 19.
+ghost use mathlib.Core.Path.{_≡_};
+ghost use mathlib.Core.List.{[], _∷_};
+ghost use Prim.Native.Nat.{_≤_};
+ghost use lib.ListN.{length, take, replicate};
+ghost use Rattle.limits.specs.Limits.{textLimit};
+ghost use Rattle.spec_hasm.specs.Text.{linesOf};
+ghost use Rattle.spec_hasm.specs.Assemble.{Assembled, unlessBadLine};
+ghost use Rattle.sheet.specs.Keys.{NamesIndexed};
+ghost use Rattle.spec_inputs.specs.Context.{contextFrom};
+ghost use Rattle.assemble.specs.Answers.{Ended};
+ghost use Rattle.assemble.specs.Passes.{textOutcome, IdSpace, NamesGood};
+use crate::answer::AssembleAnswer;
+use crate::body::Bytes;
+use hasm_labels::label_entry::Slot;
+use hasm_labels::names_pass::Names;
+use hasm_read::lines::Checked;
+use slices::write::clear;
+
+// Space for the index of names. No contract, since what fills it says what it leaves.
+fn name_heads() -> [u32; 1024] {
+    [0; 1024]
+}
+
+// The labels that are held, where all of them fit.
+fn held_labels(labels: &[Slot], count: usize) -> &[Slot]
+    ensures { λ r. ⌜ (count ≤ length (now (labels .entry)) → now r ≡ take count (now (labels .entry))) ⌝ }
+{
+    if count <= labels.len() {
+        return &labels[0..count];
+    }
+    labels
+}
+
+// Writes the instructions of a text whose lines and names are good, and measures them. `count` labels are taken; the texts'
+// index goes to the two slices of ids.
+fn put_indexed(
+    first_ids: &mut [u32],
+    next_ids: &mut [u32],
+    sheet: &[u8],
+    types: &[[u8; 8]; 256],
+    ops: &[[usize; 4]; 256],
+    heads: &[u32],
+    nexts: &[u32],
+    bytes: &[u8],
+    ends: &[u32],
+    text: &[u8],
+    count: usize,
+    labels: &[Slot],
+    out: &mut [u8],
+) -> AssembleAnswer
+    requires { ⌜ IdSpace (now «first_ids») (now «next_ids») (now ends) × (length (now text) ≤ textLimit) × NamesIndexed (now sheet) (now ops) (now heads) (now nexts) ⌝ }
+    requires { ⌜ NamesGood (now sheet) (now types) (now ops) (now text) count (now labels) × ((rest : Assembled) → unlessBadLine 1 (linesOf (now text)) rest ≡ rest) ⌝ }
+    ensures { λ r. ⌜ Ended (textOutcome (contextFrom (now (sheet .entry)) (now (types .entry)) (now (ops .entry)) (now (bytes .entry)) (now (ends .entry))) (now (text .entry)) (length (now (labels .entry)))) (now (out .entry)) (now (out .exit)) r ⌝ }
+{
+    strings::text_index::index_texts(bytes, ends, first_ids, next_ids);
+    let mut work = [0u8; limits::LINE_LIMIT];
+    let fits = count <= labels.len();
+    let held = held_labels(labels, count);
+    let b = crate::body::put_instructions(
+        bytes,
+        ends,
+        first_ids,
+        next_ids,
+        text,
+        sheet,
+        types,
+        ops,
+        heads,
+        nexts,
+        held,
+        fits,
+        &mut work,
+        out,
+    );
+    match b {
+        Bytes::Written(k) => {
+            let m = operation::ending::measure(k, limits::BODY_LIMIT, count, labels.len(), out);
+            crate::answer::measured_answer(m, k)
+        }
+        Bytes::Refused(number, line, operand) => {
+            clear(out);
+            AssembleAnswer::Operand(number, line, operand)
+        }
+    }
+}
+
+// Reads the names of a text whose lines are good, which stores the labels that fit, then writes its instructions.
+fn name_and_put(
+    first_ids: &mut [u32],
+    next_ids: &mut [u32],
+    sheet: &[u8],
+    types: &[[u8; 8]; 256],
+    ops: &[[usize; 4]; 256],
+    bytes: &[u8],
+    ends: &[u32],
+    text: &[u8],
+    out: &mut [u8],
+    labels: &mut [Slot],
+) -> AssembleAnswer
+    requires { ⌜ IdSpace (now «first_ids») (now «next_ids») (now ends) × (length (now text) ≤ textLimit) ⌝ }
+    requires { ⌜ ((rest : Assembled) → unlessBadLine 1 (linesOf (now text)) rest ≡ rest) ⌝ }
+    ensures { λ r. ⌜ Ended (textOutcome (contextFrom (now (sheet .entry)) (now (types .entry)) (now (ops .entry)) (now (bytes .entry)) (now (ends .entry))) (now (text .entry)) (length (now (labels .entry)))) (now (out .entry)) (now (out .exit)) r ⌝ }
+{
+    let mut heads = name_heads();
+    let mut nexts = [0u32; 256];
+    sheet::name_index::index_names(sheet, ops, &mut heads, &mut nexts);
+    let n = hasm_labels::names_pass::read_names(
+        text,
+        sheet,
+        types,
+        ops,
+        &heads,
+        &nexts,
+        labels,
+        b"",
+    );
+    match n {
+        Names::Good(count, _, _) => put_indexed(
+            first_ids,
+            next_ids,
+            sheet,
+            types,
+            ops,
+            &heads,
+            &nexts,
+            bytes,
+            ends,
+            text,
+            count,
+            labels,
+            out,
+        ),
+        Names::Unknown(line) => {
+            clear(out);
+            AssembleAnswer::Unknown(line)
+        }
+        Names::Count(line) => {
+            clear(out);
+            AssembleAnswer::Count(line)
+        }
+    }
+}
+
+// All passes over a text, under the tables of a sheet whose names are parts of `sheet`. The labels are left as they were used.
+pub fn assemble_text(
+    first_ids: &mut [u32],
+    next_ids: &mut [u32],
+    sheet: &[u8],
+    types: &[[u8; 8]; 256],
+    ops: &[[usize; 4]; 256],
+    bytes: &[u8],
+    ends: &[u32],
+    text: &[u8],
+    out: &mut [u8],
+    labels: &mut [Slot],
+) -> AssembleAnswer
+    requires { ⌜ IdSpace (now «first_ids») (now «next_ids») (now ends) × (length (now text) ≤ textLimit) ⌝ }
+    ensures { λ r. ⌜ Ended (textOutcome (contextFrom (now (sheet .entry)) (now (types .entry)) (now (ops .entry)) (now (bytes .entry)) (now (ends .entry))) (now (text .entry)) (length (now (labels .entry)))) (now (out .entry)) (now (out .exit)) r ⌝ }
+{
+    let c = hasm_read::lines::check_lines(text);
+    match c {
+        Checked::Good => name_and_put(
+            first_ids,
+            next_ids,
+            sheet,
+            types,
+            ops,
+            bytes,
+            ends,
+            text,
+            out,
+            labels,
+        ),
+        Checked::Long(line) => {
+            clear(out);
+            AssembleAnswer::Long(line)
+        }
+        Checked::Bad(line) => {
+            clear(out);
+            AssembleAnswer::BadByte(line)
+        }
+    }
+}
+
+// Assembles a text under the tables of a sheet, whose names are parts of `sheet`. The texts' index goes to the two slices of
+// ids and is left there, in a form that nobody has to know.
+pub fn assemble_under(
+    first_ids: &mut [u32],
+    next_ids: &mut [u32],
+    sheet: &[u8],
+    types: &[[u8; 8]; 256],
+    ops: &[[usize; 4]; 256],
+    bytes: &[u8],
+    ends: &[u32],
+    text: &[u8],
+    out: &mut [u8],
+    labels: &mut [Slot],
+) -> AssembleAnswer
+    requires { ⌜ IdSpace (now «first_ids») (now «next_ids») (now ends) × (length (now text) ≤ textLimit) ⌝ }
+    ensures { λ r. ⌜ Ended (textOutcome (contextFrom (now (sheet .entry)) (now (types .entry)) (now (ops .entry)) (now (bytes .entry)) (now (ends .entry))) (now (text .entry)) (length (now (labels .entry)))) (now (out .entry)) (now (out .exit)) r ⌝ }
+    ensures { λ _. ⌜ now (labels .exit) ≡ replicate (length (now (labels .entry))) (0 ∷ 0 ∷ 0 ∷ []) ⌝ }
+{
+    let a = assemble_text(
+        first_ids,
+        next_ids,
+        sheet,
+        types,
+        ops,
+        bytes,
+        ends,
+        text,
+        out,
+        labels,
+    );
+    slices::clearing::clear_labels(labels);
+    a
+}

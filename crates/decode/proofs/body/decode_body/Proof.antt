@@ -1,0 +1,142 @@
+use mathlib.Core.Path.{_≡_, sym, _∙_, ap}
+use Prim.Native.Nat.{_-_}
+use native.Mathlib.Omega.{arith}
+use lib.ListN.{length}
+use Rattle.spec_body.specs.Decode.{rowAt}
+use Rattle.spec_body.specs.Record.{lengthOf}
+use Rattle.decode.specs.Bodies.{bodyAnswer}
+use Rattle.decode.proofs.TableLaws.{length-in}
+use Rattle.decode.proofs.BodyLoop.{Going, start, ended, stopped, broken, turn, not-beyond, not-cut, all-written}
+use Rattle.decode.specs.declared.body.Body.the-variants.{Records}
+use borrow.Author.Needs.{needs}
+use Rattle.decode.proofs.body.decode_body.Statement.{statement}
+use Rattle.decode.proofs.body.decode_body.Tie as tie
+
+abbrev Inv-loop : tie.InvT-loop
+Inv-loop types last s out₀ codes heads n₀ at₀ out n at = Going types last s out₀ out n at
+
+abbrev μ-loop : tie.MeasureT-loop
+μ-loop types last s out₀ codes heads n₀ at₀ out n at = length s - at
+
+code-rows-requires : tie.Need-code-rows-requires Inv-loop μ-loop
+code-rows-requires c κs = search needs
+
+head-rows-requires : tie.Need-head-rows-requires Inv-loop μ-loop
+head-rows-requires c κs = search needs
+
+loop-holds : tie.Need-loop-holds Inv-loop μ-loop
+loop-holds c = start _ _ _ _
+
+shared-slice-read-op : tie.Need-shared-slice-read-op Inv-loop μ-loop
+shared-slice-read-op c = search needs
+
+cast-op : tie.Need-cast-op Inv-loop μ-loop
+cast-op c = omega (arith, c .shared-slice-known2 .given (c .before .before .loop .at))
+
+same-length : tie.Need-same-length Inv-loop μ-loop
+same-length c = c .before .before .before .loop .inv .same
+
+returns : tie.Need-returns Inv-loop μ-loop
+unfolding bodyAnswer
+returns c =
+    let l = c .before .before .before .loop in
+    let e = stopped _ _ _ _ _ _ _ (l .inv) (c .before .before .loop-test .taken) (c .if1 .taken) in
+    (sym (ap bodyAnswer e), (λ rs f. not-beyond _ _ rs e f))
+
+mul-row : tie.Need-mul-row Inv-loop μ-loop
+mul-row c = omega (arith, c .before .shared-slice-known2 .given (c .before .before .before .loop .at))
+
+element-copy-out-row : tie.Need-element-copy-out-row Inv-loop μ-loop
+element-copy-out-row c = c .before .shared-slice-known2 .given (c .before .before .before .loop .at) .fits
+
+mul-head : tie.Need-mul-head Inv-loop μ-loop
+mul-head c = omega (arith, c .before .before .shared-slice-known2 .given (c .before .before .before .before .loop .at))
+
+array-copy-out-head : tie.Need-array-copy-out-head Inv-loop μ-loop
+array-copy-out-head c = c .before .before .shared-slice-known2 .given (c .before .before .before .before .loop .at) .fits
+
+array-read-number : tie.Need-array-read-number Inv-loop μ-loop
+array-read-number c = search needs
+
+number-requires : tie.Need-number-requires Inv-loop μ-loop
+number-requires c κs = search needs
+
+sub-if2 : tie.Need-sub-if2 Inv-loop μ-loop
+sub-if2 c = search needs
+
+-- the size that is looked up is the instruction's length
+size-is : (c : tie.After-number Inv-loop μ-loop) → c .number .result ≡ lengthOf (rowAt (c .before .before .before .before .before .before .before .before .before .before .before .args .types .now) (c .before .before .before .before .before .before .before .before .before .before .before .args .s .now) (c .before .before .before .before .before .before .loop .at))
+size-is c =
+    let a = c .before .before .before .before .before .before .before .before .before .before .before .args in
+    c .number .ensures
+    ∙ length-in (a .types .now) (a .last) (c .before .before .before .before .before .before .before .head-rows .result) _ (c .before .before .before .before .before .before .before .head-rows .ensures) (c .before .before .before .before .shared-slice-known2 .given (c .before .before .before .before .before .before .loop .at) .fits) (c .before .before .before .if1 .left)
+
+same-length-2 : tie.Need-same-length-2 Inv-loop μ-loop
+same-length-2 c = c .before .before .before .before .before .before .before .loop .inv .same
+
+returns-2 : tie.Need-returns-2 Inv-loop μ-loop
+unfolding bodyAnswer
+returns-2 c =
+    let l = c .before .before .before .before .before .before .before .loop in
+    let e = broken _ _ _ _ _ _ _ (l .inv) (c .before .before .before .before .before .before .loop-test .taken) (c .before .before .before .before .if1 .left) _ (size-is (c .before)) (c .if2 .taken) in
+    (sym (ap bodyAnswer e), (λ rs f. not-cut _ _ rs e f))
+
+store-record-requires : tie.Need-store-record-requires Inv-loop μ-loop
+store-record-requires c κs =
+    let b = c .before .before .before .before .before .before .before .shared-slice-known2 .given (c .before .before .before .before .before .before .before .before .before .loop .at) .fits in
+    (c .before .before .before .before .before .before .before .before .before .before .head-rows .ensures _ b (c .before .before .before .before .before .before .if1 .left), c .before .before .before .before .before .before .before .before .before .before .before .code-rows .ensures, omega (arith, size-is (c .before .before .before), c .before .before .if2 .left, c .before .before .before .before .before .before .before .before .loop-test .taken))
+
+add-at : tie.Need-add-at Inv-loop μ-loop
+add-at c = search needs
+
+add-n : tie.Need-add-n Inv-loop μ-loop
+add-n c = search needs
+
+loop-less : tie.Need-loop-less Inv-loop μ-loop
+loop-less c = omega (arith, size-is (c .before .before .before .before .before .before), c .before .before .before .before .before .if2 .left, c .before .before .before .before .before .before .before .before .before .before .before .loop-test .taken)
+
+loop-again : tie.Need-loop-again Inv-loop μ-loop
+loop-again c =
+    let l = c .before .before .before .before .before .before .before .before .before .before .before .before .loop in
+    let w = c .before .before .store-record in
+    turn _ _ _ _ _ _ _ (l .inv) (c .before .before .before .before .before .before .before .before .before .before .before .loop-test .taken) (c .before .before .before .before .before .before .before .before .before .if1 .left) _ (size-is (c .before .before .before .before .before .before)) _ (c .before .before .before .before .before .if2 .left) (w .kept .0) (w .ensures .1) (w .ensures .0)
+
+same-length-3 : tie.Need-same-length-3 Inv-loop μ-loop
+same-length-3 c = c .before .loop .inv .same
+
+returns-3 : tie.Need-returns-3 Inv-loop μ-loop
+unfolding bodyAnswer
+returns-3 c =
+    let l = c .before .loop in
+    let e = ended _ _ _ _ _ _ _ (l .inv) (c .loop-test .left) in
+    (ap Records (sym (l .inv .number)) ∙ sym (ap bodyAnswer e), (λ rs f. all-written _ _ _ _ _ _ _ (l .inv) (c .loop-test .left) rs f))
+
+pub decode-body-spec : {M : Type 1} → statement M
+decode-body-spec =
+    tie.close
+    (tie.spec
+    Inv-loop
+    μ-loop
+    code-rows-requires
+    head-rows-requires
+    loop-holds
+    shared-slice-read-op
+    cast-op
+    same-length
+    returns
+    mul-row
+    element-copy-out-row
+    mul-head
+    array-copy-out-head
+    array-read-number
+    number-requires
+    sub-if2
+    same-length-2
+    returns-2
+    store-record-requires
+    add-at
+    add-n
+    loop-less
+    loop-again
+    same-length-3
+    returns-3)

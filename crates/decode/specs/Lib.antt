@@ -1,0 +1,4 @@
+pub mod Value
+pub mod Tables
+pub mod Answers
+pub mod Bodies

@@ -1,0 +1,112 @@
+// The record of one instruction.
+ghost use mathlib.Core.Path.{_≡_};
+ghost use Prim.Native.Nat.{_+_, _≤_};
+ghost use lib.ListN.{length, set};
+ghost use lib.Seq.{paste};
+ghost use Rattle.spec_sheet.specs.Types.{widthOf};
+ghost use Rattle.spec_body.specs.Record.{lengthOf, countOf, pairs, recordOf};
+ghost use Rattle.decode.specs.Value.{operandAt};
+ghost use Rattle.decode.specs.Tables.{CodeRows, headRow};
+use crate::operand_value::Operand;
+use crate::tables::kind_at;
+use crate::tables::width_at;
+
+fn wide(b: u8) -> u64
+    ensures { λ r. ⌜ r ≡ b ⌝ }
+{
+    b as u64
+}
+
+// The length of an instruction whose operands have the types of the row.
+pub fn instruction_length(row: [u8; 8]) -> usize
+    ensures { λ r. ⌜ (r ≡ lengthOf row) × (r ≤ 65) ⌝ }
+{
+    let mut n: usize = 1;
+    let mut i: usize = 0;
+    while i < 8 {
+        n += sheet::operand_types::width(row[i]);
+        i += 1;
+    }
+    n
+}
+
+// How many operands it has.
+pub fn operand_count(row: [u8; 8]) -> u64
+    ensures { λ r. ⌜ r ≡ countOf row ⌝ }
+{
+    let mut n: u64 = 0;
+    let mut i: usize = 0;
+    while i < 8 {
+        if row[i] != 0 {
+            n += 1;
+        }
+        i += 1;
+    }
+    n
+}
+
+// Writes two words.
+fn put_pair(out: &mut [u64], k: usize, first: u64, second: u64)
+    requires { ⌜ k + 2 ≤ length (now out) ⌝ }
+    ensures { λ _. ⌜ now (out .exit) ≡ set (set (now (out .entry)) k first) (k + 1) second ⌝ }
+{
+    out[k] = first;
+    out[k + 1] = second;
+}
+
+// The operand of a type at p, in the instruction at `at`. Whether eight bytes end with the operand's is asked of the
+// instruction's place, which is the same for all its operands, so the compiler takes the test out of their loop.
+fn operand_at(code: u8, codes: &[[u8; 2]; 256], s: &[u8], at: usize, p: usize) -> Operand
+    requires { ⌜ CodeRows (now codes) × (at ≤ p) × (p + widthOf code ≤ length (now s)) ⌝ }
+    ensures { λ r. ⌜ r ≡ operandAt code (now (s .entry)) p ⌝ }
+{
+    if 8 <= at {
+        let bits = numbers::io::read_of_eight(s, p, width_at(codes, code));
+        let value = crate::operand_value::value_of(kind_at(codes, code), bits);
+        return Operand { value, bits };
+    }
+    crate::operand_value::read_operand(code, s, p)
+}
+
+// Writes the eight pairs of kind and bits of the instruction at `at` from word k on.
+fn put_operands(
+    out: &mut [u64],
+    k: usize,
+    row: [u8; 8],
+    codes: &[[u8; 2]; 256],
+    s: &[u8],
+    at: usize,
+)
+    requires { ⌜ (k + 16 ≤ length (now out)) × CodeRows (now codes) × (at + lengthOf row ≤ length (now s)) ⌝ }
+    ensures { λ _. ⌜ now (out .exit) ≡ paste (now (out .entry)) k (pairs row (now (s .entry)) (at + 1)) 16 ⌝ }
+{
+    let mut p = at + 1;
+    let mut i: usize = 0;
+    while i < 8 {
+        let c = row[i];
+        let o = operand_at(c, codes, s, at, p);
+        let value = o.value;
+        let kind = crate::operand_value::kind_of(value);
+        put_pair(out, k + 2 * i, wide(kind), o.bits);
+        p += width_at(codes, c);
+        i += 1;
+    }
+}
+
+// Writes the record of the instruction at `at` from word k on.
+pub fn put_record(
+    out: &mut [u64],
+    k: usize,
+    row: [u8; 8],
+    head: [u8; 2],
+    codes: &[[u8; 2]; 256],
+    s: &[u8],
+    at: usize,
+)
+    requires { ⌜ (k + 20 ≤ length (now out)) × (head ≡ headRow row) × CodeRows (now codes) × (at + lengthOf row ≤ length (now s)) ⌝ }
+    ensures { λ _. ⌜ (now (out .exit) ≡ paste (now (out .entry)) k (recordOf row (now (s .entry)) at) 20) × (length row ≡ 8) ⌝ }
+{
+    put_pair(out, k, at as u64, wide(s[at]));
+    put_pair(out, k + 2, wide(head[0]), wide(head[1]));
+    put_operands(out, k + 4, row, codes, s, at);
+}

@@ -1,2 +1,0 @@
-// The operation that lists a body.
-pub mod operation;

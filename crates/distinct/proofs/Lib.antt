@@ -1,4 +1,0 @@
-pub mod DifferentLaws
-pub mod PartLaws
-pub mod PartLoop
-pub mod CountLaws

@@ -1,2 +1,0 @@
-pub mod NanLaws
-pub mod PlaceLaws

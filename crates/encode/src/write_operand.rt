@@ -1,0 +1,123 @@
+// One operand: the little-endian number that a value gives under an operand type, `write_operand` of encode.rs. A value
+// is its kind and its bits; the kind is a u64, as it stands in a record.
+ghost use mathlib.Core.Path.{_≡_};
+ghost use Prim.Native.Nat.{_^_};
+ghost use lib.Dec.{ltb};
+ghost use Rattle.spec_numbers.specs.TwosComplement.{extend8};
+ghost use Rattle.spec_body.specs.Encode.{encodeUnsigned, encodeAddr8, encodeSigned32, encodeDouble, encodeOperand};
+ghost use Rattle.numbers.specs.Answers.{numberOf};
+ghost use Rattle.encode.specs.Value.{encodeValue};
+use decode::operand_value::OperandValue;
+use numbers::parse::Number;
+
+// Whether a number has at most w bytes. Division keeps clear of powers, which a u64 does not hold.
+pub fn fits_in(w: usize, bits: u64) -> bool
+    ensures { λ r. ⌜ r ≡ ltb bits (256 ^ w) ⌝ }
+{
+    let mut left = w;
+    let mut rest = bits;
+    while 0 < left {
+        rest /= 256;
+        left -= 1;
+    }
+    rest == 0
+}
+
+// Into a register, a number or a string id.
+fn encode_unsigned(code: u8, kind: u64, bits: u64) -> Number
+    ensures { λ r. ⌜ r ≡ numberOf (encodeUnsigned code kind bits) ⌝ }
+{
+    if 2 < kind {
+        return Number::Bad;
+    }
+    if fits_in(sheet::operand_types::width(code), bits) {
+        return Number::Is(bits);
+    }
+    Number::Bad
+}
+
+// Into Addr8.
+fn encode_addr8(kind: u64, bits: u64) -> Number
+    ensures { λ r. ⌜ r ≡ numberOf (encodeAddr8 kind bits) ⌝ }
+{
+    if kind == 3 {
+        return Number::Is(bits);
+    }
+    if kind == 0 {
+        return Number::Is(bits);
+    }
+    if kind != 4 {
+        return Number::Bad;
+    }
+    if bits < 128 {
+        return Number::Is(bits % 256);
+    }
+    if 0xffff_ff80 <= bits {
+        return Number::Is(bits % 256);
+    }
+    Number::Bad
+}
+
+// A signed byte with 32 bits. What is no byte, and so in no record that is taken, has them all set, as the definition
+// says.
+fn extend_bits(bits: u64) -> u64
+    ensures { λ r. ⌜ r ≡ extend8 bits ⌝ }
+{
+    if bits < 256 {
+        return numbers::signed::sign_extend8(bits as u8) as u64;
+    }
+    0xffff_ffff
+}
+
+// Into Addr32 and Imm32.
+fn encode_signed32(kind: u64, bits: u64) -> Number
+    ensures { λ r. ⌜ r ≡ numberOf (encodeSigned32 kind bits) ⌝ }
+{
+    if kind == 3 {
+        return Number::Is(extend_bits(bits));
+    }
+    if kind <= 4 {
+        return Number::Is(bits);
+    }
+    Number::Bad
+}
+
+// Into Double.
+fn encode_double(kind: u64, bits: u64) -> Number
+    ensures { λ r. ⌜ r ≡ numberOf (encodeDouble kind bits) ⌝ }
+{
+    if kind == 5 {
+        return Number::Is(bits);
+    }
+    Number::Bad
+}
+
+// The number of an operand of a type, from a value's kind and bits.
+pub fn encode_number(code: u8, kind: u64, bits: u64) -> Number
+    ensures { λ r. ⌜ r ≡ numberOf (encodeOperand code kind bits) ⌝ }
+{
+    if sheet::operand_types::family(code) <= 3 {
+        return encode_unsigned(code, kind, bits);
+    }
+    if code == 9 {
+        return encode_addr8(kind, bits);
+    }
+    if code == 12 {
+        return encode_double(kind, bits);
+    }
+    encode_signed32(kind, bits)
+}
+
+// The same from the value itself. A double's bits come beside it, since an f64 keeps no NaN's payload.
+pub fn write_operand(code: u8, v: OperandValue, bits: u64) -> Number
+    ensures { λ r. ⌜ r ≡ numberOf (encodeValue code v bits) ⌝ }
+{
+    match v {
+        OperandValue::U8(x) => encode_number(code, 0, x as u64),
+        OperandValue::U16(x) => encode_number(code, 1, x as u64),
+        OperandValue::U32(x) => encode_number(code, 2, x as u64),
+        OperandValue::I8(x) => encode_number(code, 3, numbers::signed::bits_i8(x) as u64),
+        OperandValue::I32(x) => encode_number(code, 4, numbers::signed::bits_i32(x) as u64),
+        OperandValue::F64(_) => encode_number(code, 5, bits),
+    }
+}

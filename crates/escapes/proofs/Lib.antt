@@ -1,2 +1,0 @@
-pub mod EscapeTurns
-pub mod BareLaws

@@ -1,4 +1,0 @@
-pub mod BodyLoop
-pub mod InstructionLaws
-pub mod LineTurns
-pub mod BodyTurns

@@ -1,3 +1,0 @@
-pub mod Puts
-pub mod Going
-pub mod Bodies

@@ -1,2 +1,0 @@
-pub mod CommaLaws
-pub mod OperandLaws

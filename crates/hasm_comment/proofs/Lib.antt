@@ -1,2 +1,0 @@
-pub mod QuoteLaws
-pub mod CommentLaws

@@ -1,0 +1,76 @@
+use native.Mathlib.Omega.{arith}
+use lib.ListN.{length}
+use Prim.Native.Nat.{ℕ, _-_}
+use mathlib.Core.List.{List, []}
+use mathlib.Core.Path.{_≡_, refl}
+use Rattle.hasm_labels.specs.NamesRead.NamesRead.{unknown, miscounted}
+use Rattle.hasm_labels.specs.Going.{Going}
+use Rattle.hasm_labels.proofs.NamesLaws.{going-start, going-line, going-end}
+use borrow.Author.Needs.{needs}
+use Rattle.hasm_labels.proofs.names_pass.read_names.Statement.{statement}
+use Rattle.hasm_labels.proofs.names_pass.read_names.Tie as tie
+
+abbrev Inv-loop : tie.InvT-loop
+Inv-loop text sheet types ops heads nexts labels₀ t p₀ at₀ n₀ labels p at n = ((bytes ends : List ℕ) → Going (record { sheet = sheet; types = types; infos = ops; bytes = bytes; ends = ends }) text t at n p labels) × (length labels ≡ length labels₀)
+
+abbrev μ-loop : tie.MeasureT-loop
+μ-loop text sheet types ops heads nexts labels₀ t p₀ at₀ n₀ labels p at n = length text - at
+
+loop-holds : tie.Need-loop-holds Inv-loop μ-loop
+loop-holds c = ((λ bytes ends. going-start _ (c .before .before .before .before .before .args .text .now) (c .before .before .before .before .before .args .t .now) (c .before .before .before .before .before .args .labels .now)), refl)
+
+line-end-requires : tie.Need-line-end-requires Inv-loop μ-loop
+line-end-requires c κs = search needs
+
+take-line-requires : tie.Need-take-line-requires Inv-loop μ-loop
+take-line-requires c κs = ((c .before .before .before .before .before .before .before .before .before .pre .0), going-line (c .before .line-end .result) (c .before .before .before .loop .inv .0 [] []) (c .before .before .loop-test .taken) (c .before .line-end .ensures) (c .before .before .before .before .before .before .before .before .before .pre .1))
+
+same-length : tie.Need-same-length Inv-loop μ-loop
+same-length c = search needs
+
+returns : tie.Need-returns Inv-loop μ-loop
+returns c = λ bytes ends. unknown _ refl (c .before .before .take-line .ensures bytes ends (c .before .before .before .before .before .before .loop .n) (c .before .before .before .before .before .before .loop .inv .0 bytes ends) .unknown (c .if1 .taken))
+
+same-length-2 : tie.Need-same-length-2 Inv-loop μ-loop
+same-length-2 c = search needs
+
+returns-2 : tie.Need-returns-2 Inv-loop μ-loop
+returns-2 c = λ bytes ends. miscounted _ refl (c .before .before .before .take-line .ensures bytes ends (c .before .before .before .before .before .before .before .loop .n) (c .before .before .before .before .before .before .before .loop .inv .0 bytes ends) .miscounted (c .if2 .taken))
+
+add-at : tie.Need-add-at Inv-loop μ-loop
+add-at c = search needs
+
+add-n : tie.Need-add-n Inv-loop μ-loop
+add-n c = omega (arith, c .before .before .before .before .before .before .before .loop .inv .0 [] [] .few, c .before .before .before .before .before .before .loop-test .taken, c .before .before .before .before .before .before .before .before .before .before .before .before .before .pre .1)
+
+loop-less : tie.Need-loop-less Inv-loop μ-loop
+loop-less c = search needs
+
+loop-again : tie.Need-loop-again Inv-loop μ-loop
+loop-again c = ((λ bytes ends. c .before .before .before .take-line .ensures bytes ends (c .before .before .before .before .before .before .before .loop .n) (c .before .before .before .before .before .before .before .loop .inv .0 bytes ends) .good (c .before .if1 .left) (c .if2 .left)), search needs)
+
+same-length-3 : tie.Need-same-length-3 Inv-loop μ-loop
+same-length-3 c = search needs
+
+returns-3 : tie.Need-returns-3 Inv-loop μ-loop
+returns-3 c = λ bytes ends. going-end _ (c .before .before .before .before .before .before .before .args .text .now) (c .before .before .before .before .before .before .before .args .t .now) (c .before .loop .at) (c .before .loop .n) (c .before .loop .p) _ (c .before .loop .inv .0 bytes ends) (c .loop-test .left) (c .before .before .before .before .before .before .before .pre .1)
+
+pub read-names-spec : {M : Type 1} → statement M
+read-names-spec =
+    tie.close
+    (tie.spec
+    Inv-loop
+    μ-loop
+    loop-holds
+    line-end-requires
+    take-line-requires
+    same-length
+    returns
+    same-length-2
+    returns-2
+    add-at
+    add-n
+    loop-less
+    loop-again
+    same-length-3
+    returns-3)

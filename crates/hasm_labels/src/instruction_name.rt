@@ -1,0 +1,43 @@
+// The name of an instruction and how many operands it has.
+ghost use mathlib.Core.List.{List};
+ghost use Prim.Native.Nat.{ℕ};
+ghost use Rattle.sheet.specs.Keys.{NamesIndexed};
+ghost use Rattle.hasm_labels.specs.NameReads.{NameRead};
+use slices::search::Found;
+
+// The instruction's length; or that the sheet has no such name (4), or gives it another number of operands (5).
+pub enum Named {
+    Size(usize),
+    Unknown,
+    Count,
+}
+
+pub fn read_name(
+    s: &[u8],
+    sheet: &[u8],
+    types: &[[u8; 8]; 256],
+    ops: &[[usize; 4]; 256],
+    heads: &[u32],
+    nexts: &[u32],
+) -> Named
+    requires { ⌜ NamesIndexed (now sheet) (now ops) (now heads) (now nexts) ⌝ }
+    ensures { λ r. ⌜ ((bytes ends : List ℕ) → NameRead (record { sheet = now (sheet .entry); types = now (types .entry); infos = now (ops .entry); bytes = bytes; ends = ends }) (now (s .entry)) r) ⌝ }
+{
+    let k = hasm_read::white_space::skip(s, 0, false);
+    let found = sheet::name_index::find_indexed(sheet, ops, heads, nexts, &s[0..k]);
+    let Found::At(opcode) = found else {
+        return Named::Unknown;
+    };
+    // An opcode that was found has a row, so this test only shows that it is below 256.
+    let rows: &[[usize; 4]] = ops;
+    if rows.len() <= opcode {
+        return Named::Unknown;
+    }
+    let row = types[opcode];
+    let a = hasm_read::white_space::skip(s, k, true);
+    let given = hasm_read::commas::count_operands(&s[a..]);
+    if given as u64 != decode::record::operand_count(row) {
+        return Named::Count;
+    }
+    Named::Size(decode::record::instruction_length(row))
+}

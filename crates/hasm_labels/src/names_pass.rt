@@ -1,0 +1,72 @@
+// The pass over the names of a text's instructions, and its labels on the way.
+ghost use mathlib.Core.List.{List};
+ghost use Prim.Native.Nat.{ℕ, _≤_};
+ghost use lib.ListN.{length};
+ghost use Rattle.limits.specs.Limits.{textLimit};
+ghost use Rattle.sheet.specs.Keys.{NamesIndexed};
+ghost use Rattle.hasm_labels.specs.NamesRead.{NamesRead};
+use crate::hold_label::Progress;
+use crate::label_entry::Slot;
+
+// How many labels are taken, whether one has the text that was asked for, and the offset of the last one; or the line of a
+// name that the sheet does not have (4), or of one that has too few or too many operands (5).
+pub enum Names {
+    Good(usize, bool, usize),
+    Unknown(usize),
+    Count(usize),
+}
+
+// Reads the names, stores the labels that fit and looks for the label t.
+pub fn read_names(
+    text: &[u8],
+    sheet: &[u8],
+    types: &[[u8; 8]; 256],
+    ops: &[[usize; 4]; 256],
+    heads: &[u32],
+    nexts: &[u32],
+    labels: &mut [Slot],
+    t: &[u8],
+) -> Names
+    requires { ⌜ NamesIndexed (now sheet) (now ops) (now heads) (now nexts) ⌝ }
+    requires { ⌜ length (now text) ≤ textLimit ⌝ }
+    ensures { λ r. ⌜ ((bytes ends : List ℕ) → NamesRead (record { sheet = now (sheet .entry); types = now (types .entry); infos = now (ops .entry); bytes = bytes; ends = ends }) (now (text .entry)) (now (t .entry)) (now (labels .exit)) r) ⌝ }
+{
+    let mut p = Progress {
+        waits: false,
+        start: 0,
+        size: 0,
+        count: 0,
+        offset: 0,
+        has: false,
+        place: 0,
+        refusal: 0,
+    };
+    let mut at: usize = 0;
+    let mut n: usize = 1;
+    while at < text.len() {
+        let end = hasm_read::lines::line_end(text, at);
+        p = crate::take_line::take_line(
+            text,
+            at,
+            end,
+            sheet,
+            types,
+            ops,
+            heads,
+            nexts,
+            labels,
+            t,
+            p,
+        );
+        let refusal = p.refusal;
+        if refusal == 4 {
+            return Names::Unknown(n);
+        }
+        if refusal == 5 {
+            return Names::Count(n);
+        }
+        at = end + 1;
+        n += 1;
+    }
+    Names::Good(p.count, p.has, p.place)
+}

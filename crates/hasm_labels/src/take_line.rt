@@ -1,0 +1,113 @@
+// One line of the pass over names and labels.
+ghost use mathlib.Core.Path.{_≡_};
+ghost use mathlib.Core.List.{List};
+ghost use Prim.Native.Nat.{ℕ, _+_};
+ghost use Rattle.sheet.specs.Keys.{NamesIndexed};
+ghost use Rattle.hasm_labels.specs.Holding.{Small};
+ghost use Rattle.hasm_labels.specs.Going.{CodeTaken, LineAt, Going, Turned};
+use crate::hold_label::Progress;
+use crate::instruction_name::Named;
+use crate::label_entry::Slot;
+use hasm_read::statement::Statement;
+
+// The line is refused by a number.
+fn refuse(p: Progress, number: u8) -> Progress
+    ensures { λ r. ⌜ r .refusal ≡ number ⌝ }
+{
+    Progress {
+        waits: p.waits,
+        start: p.start,
+        size: p.size,
+        count: p.count,
+        offset: p.offset,
+        has: p.has,
+        place: p.place,
+        refusal: number,
+    }
+}
+
+// The instruction s takes the label that waits.
+fn take_code(
+    s: &[u8],
+    sheet: &[u8],
+    types: &[[u8; 8]; 256],
+    ops: &[[usize; 4]; 256],
+    heads: &[u32],
+    nexts: &[u32],
+    text: &[u8],
+    labels: &mut [Slot],
+    t: &[u8],
+    p: Progress,
+) -> Progress
+    requires { ⌜ NamesIndexed (now sheet) (now ops) (now heads) (now nexts) ⌝ }
+    requires { ⌜ Small p ⌝ }
+    ensures { λ r. ⌜ ((bytes ends : List ℕ) → CodeTaken (record { sheet = now (sheet .entry); types = now (types .entry); infos = now (ops .entry); bytes = bytes; ends = ends }) (now (s .entry)) (now (text .entry)) (now (t .entry)) (now (labels .entry)) p (now (labels .exit)) r) ⌝ }
+{
+    let named = crate::instruction_name::read_name(s, sheet, types, ops, heads, nexts);
+    match named {
+        Named::Size(size) => {
+            let q = crate::hold_label::hold_label(text, labels, t, p);
+            Progress {
+                waits: false,
+                start: 0,
+                size: 0,
+                count: q.count,
+                offset: q.offset + size,
+                has: q.has,
+                place: q.place,
+                refusal: 0,
+            }
+        }
+        Named::Unknown => refuse(p, 4),
+        Named::Count => refuse(p, 5),
+    }
+}
+
+// The line from `at` to its end: a label waits from here on, and an instruction takes the one that does.
+pub fn take_line(
+    text: &[u8],
+    at: usize,
+    end: usize,
+    sheet: &[u8],
+    types: &[[u8; 8]; 256],
+    ops: &[[usize; 4]; 256],
+    heads: &[u32],
+    nexts: &[u32],
+    labels: &mut [Slot],
+    t: &[u8],
+    p: Progress,
+) -> Progress
+    requires { ⌜ NamesIndexed (now sheet) (now ops) (now heads) (now nexts) ⌝ }
+    requires { ⌜ LineAt (now text) at end p ⌝ }
+    ensures { λ r. ⌜ ((bytes ends : List ℕ) (n : ℕ) → Going (record { sheet = now (sheet .entry); types = now (types .entry); infos = now (ops .entry); bytes = bytes; ends = ends }) (now (text .entry)) (now (t .entry)) at n p (now (labels .entry)) → Turned (record { sheet = now (sheet .entry); types = now (types .entry); infos = now (ops .entry); bytes = bytes; ends = ends }) (now (text .entry)) (now (t .entry)) (end + 1) n r (now (labels .exit))) ⌝ }
+{
+    let line = hasm_read::lines::line_of(text, at, end);
+    let statement = hasm_read::statement::read_statement(line, sheet, ops, heads, nexts);
+    match statement {
+        Statement::Nothing => p,
+        Statement::Label(a, m) => Progress {
+            waits: true,
+            start: at + a,
+            size: m,
+            count: p.count,
+            offset: p.offset,
+            has: p.has,
+            place: p.place,
+            refusal: 0,
+        },
+        Statement::Instruction(a, b) => {
+            take_code(
+                &line[a..b],
+                sheet,
+                types,
+                ops,
+                heads,
+                nexts,
+                text,
+                labels,
+                t,
+                p,
+            )
+        }
+    }
+}

@@ -1,2 +1,0 @@
-// What a line of an assembler's text is: nothing, a label or an instruction.
-pub mod statement;

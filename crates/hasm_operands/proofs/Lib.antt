@@ -1,3 +1,0 @@
-pub mod ValueLaws
-pub mod TokenPlaces
-pub mod OperandsLoop

@@ -1,2 +1,0 @@
-pub mod Editions
-pub mod Puts

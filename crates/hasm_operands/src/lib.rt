@@ -1,3 +1,0 @@
-// The operands of an instruction of an assembler's text, as bytes.
-pub mod value;
-pub mod write;

@@ -1,0 +1,86 @@
+-- Laws of the check of a text's lines. Assumes nothing.
+use mathlib.Core.Path.{_≡_, refl, _∙_}
+use mathlib.Core.Bool.{Bool, true, false}
+use Prim.Native.Nat.{ℕ, _+_, _≤_, _<_}
+use native.Mathlib.Numerals.{add-one}
+use native.Mathlib.Omega.{arith}
+use mathlib.Core.List.{List, _∷_}
+use borrow.Author.Tests.{lt-ltb, le-ltb}
+use lib.Dec.{eqb}
+use lib.ListN.{length, drop}
+use Rattle.lists.specs.Choice.{either, within}
+use Rattle.lists.specs.Scan.{run, all}
+use Rattle.spec_hasm.specs.Text.{linesOf}
+use Rattle.spec_hasm.specs.Assemble.{Assembled, isTextByte, unlessBadLine}
+use Rattle.spec_hasm.specs.Assemble.Assembled.{refusedAt}
+use Rattle.hasm_read.specs.Lines.{notFeed, lineIn}
+use Rattle.hasm_read.proofs.LineLaws.{line-next, lines-none}
+
+-- a byte of a text, by the ranges in the order that the code tests them
+pub shown-byte : (b : ℕ) → within 32 126 b ≡ true → isTextByte b ≡ true
+unfolding isTextByte
+shown-byte b e = rw e (go (within 9 10 b) (eqb b 13))
+  where
+    go : (t u : Bool) → either t (either u true) ≡ true
+    go true u = refl
+    go false true = refl
+    go false false = refl
+
+pub tab-or-feed : (b : ℕ) → within 9 10 b ≡ true → isTextByte b ≡ true
+unfolding isTextByte
+tab-or-feed b e = rw e
+
+pub other-byte : (b : ℕ) → within 32 126 b ≡ false → within 9 10 b ≡ false → isTextByte b ≡ eqb b 13
+unfolding isTextByte
+other-byte b e f = rw (e, f) (go (eqb b 13))
+  where
+    go : (t : Bool) → either t false ≡ t
+    go true = refl
+    go false = refl
+
+-- line n is too long; it has a byte that is no text; it is good
+module _ (n : ℕ) (l : List ℕ) (ls : List (List ℕ)) (rest : Assembled) where
+  check-long : 4096 < length l → unlessBadLine n (l ∷ ls) rest ≡ refusedAt 3 n 0
+  unfolding unlessBadLine
+  check-long h = rw (lt-ltb 4096 (length l) h)
+
+  check-bad : length l ≤ 4096 → all isTextByte l ≡ false → unlessBadLine n (l ∷ ls) rest ≡ refusedAt 2 n 0
+  unfolding unlessBadLine
+  check-bad h e = rw (le-ltb 4096 (length l) h, e)
+
+  check-good : length l ≤ 4096 → all isTextByte l ≡ true → unlessBadLine n (l ∷ ls) rest ≡ unlessBadLine (n + 1) ls rest
+  unfolding unlessBadLine
+  check-good h e = rw (le-ltb 4096 (length l) h, e, add-one n)
+
+-- the check of a text s is that of the lines from `at` on, the first of which is line n
+pub record Going (s : List ℕ) (at n : ℕ) : Type 0 where
+  pub near : at ≤ length s + 1
+  pub few : n ≤ at + 1
+  pub left : (rest : Assembled) → unlessBadLine 1 (linesOf s) rest ≡ unlessBadLine n (linesOf (drop at s)) rest
+
+pub going-start : (s : List ℕ) → Going s 0 1
+going-start s = record { near = omega arith; few = omega arith; left = λ rest. refl }
+
+pub going-end : {s : List ℕ} {at n : ℕ} → Going s at n → length s ≤ at → (rest : Assembled) → unlessBadLine 1 (linesOf s) rest ≡ rest
+unfolding unlessBadLine
+going-end {s} {at} {n} g h rest = g .left rest ∙ rw (lines-none s at h)
+
+-- at a line l, whose end was found
+module _ (s : List ℕ) (at n end : ℕ) (l : List ℕ) (g : Going s at n) (h : at < length s) (e : end ≡ at + run notFeed (drop at s)) (f : l ≡ lineIn s at end) where
+  here : (rest : Assembled) → unlessBadLine 1 (linesOf s) rest ≡ unlessBadLine n (l ∷ linesOf (drop (end + 1) s)) rest
+  here rest = g .left rest ∙ rw (line-next s at end h e, f)
+
+  pub going-long : 4096 < length l → (rest : Assembled) → unlessBadLine 1 (linesOf s) rest ≡ refusedAt 3 n 0
+  going-long k rest = here rest ∙ check-long n l (linesOf (drop (end + 1) s)) rest k
+
+  module _ (k : length l ≤ 4096) where
+    pub going-bad : all isTextByte l ≡ false → (rest : Assembled) → unlessBadLine 1 (linesOf s) rest ≡ refusedAt 2 n 0
+    going-bad b rest = here rest ∙ check-bad n l (linesOf (drop (end + 1) s)) rest k b
+
+    pub going-on : end ≤ length s → all isTextByte l ≡ true → Going s (end + 1) (n + 1)
+    going-on m b =
+        record {
+          near = omega arith;
+          few = omega (arith, g .few, e);
+          left = λ rest. here rest ∙ check-good n l (linesOf (drop (end + 1) s)) rest k b;
+        }

@@ -1,0 +1,12 @@
+pub mod WhiteLaws
+pub mod MarkLaws
+pub mod QuoteLaws
+pub mod CommentLaws
+pub mod CommaLaws
+pub mod OperandLaws
+pub mod LineLaws
+pub mod CheckLaws
+pub mod PartLaws
+pub mod ShapeLaws
+pub mod OffsetLaws
+pub mod StatementLaws

@@ -1,0 +1,6 @@
+pub mod Spaces
+pub mod Quotes
+pub mod Commas
+pub mod Lines
+pub mod Refusals
+pub mod Statements

@@ -1,2 +1,0 @@
-pub mod WhiteLaws
-pub mod MarkLaws

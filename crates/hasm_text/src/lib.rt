@@ -1,2 +1,0 @@
-// The lines of an assembler's text.
-pub mod lines;

@@ -1,0 +1,4 @@
+pub mod TokenLaws
+pub mod BoundLaws
+pub mod AddressLaws
+pub mod TextLaws

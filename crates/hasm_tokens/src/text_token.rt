@@ -1,0 +1,93 @@
+// Tokens that are strings, by their id in the string table.
+ghost use mathlib.Core.Path.{_≡_};
+ghost use mathlib.Core.Bool.{false};
+ghost use Prim.Native.Nat.{_≤_};
+ghost use lib.ListN.{length};
+ghost use Rattle.lists.specs.Scan.{all};
+ghost use Rattle.spec_strings.specs.Escape.{unescape};
+ghost use Rattle.spec_strings.specs.Table.{lookup};
+ghost use Rattle.spec_hasm.specs.Token.{foundOr, isQuoted, stringValue};
+ghost use Rattle.strings.specs.Keys.{TextsIndexed};
+ghost use Rattle.hasm_tokens.specs.Values.{tokenAnswer};
+ghost use Rattle.hasm_tokens.specs.TextValues.{indexOr, isLiteral};
+use crate::number_token::Value;
+use crate::number_token::unsigned_value;
+use slices::search::Found;
+use strings::text_index::lookup_indexed;
+use strings::unescape::put_unescaped;
+
+// An index that was found, or else the refusal.
+fn index_or(number: u64, found: Found) -> Value
+    ensures { λ r. ⌜ r ≡ indexOr number found ⌝ }
+{
+    let Found::At(i) = found else {
+        return Value::Refused(number);
+    };
+    Value::Bits(i as u64)
+}
+
+// Whether no byte is a backslash.
+fn all_literal(s: &[u8]) -> bool
+    ensures { λ r. ⌜ r ≡ all isLiteral (now (s .entry)) ⌝ }
+{
+    let mut i: usize = 0;
+    while i < s.len() {
+        if s[i] == 92 {
+            return false;
+        }
+        i += 1;
+    }
+    true
+}
+
+// The id of what stands between the quotes. A text without a backslash means itself, so it is looked up where it stands.
+fn quoted_value(
+    inside: &[u8],
+    bytes: &[u8],
+    ends: &[u32],
+    heads: &[u32],
+    nexts: &[u32],
+    work: &mut [u8],
+) -> Value
+    requires { ⌜ TextsIndexed (now bytes) (now ends) (now heads) (now nexts) × (length (now inside) ≤ length (now work)) ⌝ }
+    ensures { λ r. ⌜ r ≡ tokenAnswer (foundOr 10 (lookup (unescape false (now (inside .entry))) (now (bytes .entry)) (now (ends .entry)))) ⌝ }
+{
+    if all_literal(inside) {
+        return index_or(10, lookup_indexed(inside, bytes, ends, heads, nexts));
+    }
+    let n = put_unescaped(work, 0, inside);
+    index_or(10, lookup_indexed(&work[..n], bytes, ends, heads, nexts))
+}
+
+// Whether a quote ends a token that a quote opens.
+fn is_quoted(t: &[u8]) -> bool
+    ensures { λ r. ⌜ r ≡ isQuoted (now (t .entry)) ⌝ }
+{
+    if t.len() < 2 {
+        return false;
+    }
+    t[t.len() - 1] == 34
+}
+
+pub fn string_value(
+    t: &[u8],
+    bytes: &[u8],
+    ends: &[u32],
+    heads: &[u32],
+    nexts: &[u32],
+    work: &mut [u8],
+) -> Value
+    requires { ⌜ TextsIndexed (now bytes) (now ends) (now heads) (now nexts) × (length (now t) ≤ length (now work)) ⌝ }
+    ensures { λ r. ⌜ r ≡ tokenAnswer (stringValue (now (bytes .entry)) (now (ends .entry)) (now (t .entry))) ⌝ }
+{
+    if t.len() == 0 {
+        return unsigned_value(t);
+    }
+    if t[0] != 34 {
+        return unsigned_value(t);
+    }
+    if !is_quoted(t) {
+        return Value::Refused(9);
+    }
+    quoted_value(&t[1..t.len() - 1], bytes, ends, heads, nexts, work)
+}

@@ -1,3 +1,0 @@
-pub mod UnderLaws
-pub mod EndedLaws
-pub mod TableLaws

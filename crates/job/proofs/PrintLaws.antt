@@ -1,0 +1,85 @@
+-- Bytes in hex, and how much of a text is printed. Assumes nothing.
+use mathlib.Core.Path.{_≡_, refl, ap, sym, _∙_}
+use mathlib.Core.List.{List, [], _∷_, _++_, append-assoc, append-nil}
+use Prim.Native.Nat.{ℕ, _+_, _*_, _^_, _<_, _≤_}
+use native.Mathlib.Omega.{arith}
+use lib.ListN.{length, getD, take, length-append}
+use lib.Seq.{take-suc, take-all}
+use native.Mathlib.Numerals.{add-one}
+use Rattle.lists.specs.Text.{text}
+use Rattle.lists.specs.Write.{Put}
+use Rattle.lists.proofs.Writes.{_then_, same-piece}
+use Rattle.spec_numbers.specs.Print.{decimal, padded, hexUpper}
+use Rattle.spec_numbers.proofs.PrintLaws.{decimal-length, padded-length, hexUpper-few}
+use Rattle.spec_job.specs.Printed.{jobRun, refusedText, hexOf, bodyText, formOf, printedOf, printedJob}
+use Rattle.job.specs.Prints.{Prints}
+use Rattle.spec_job.specs.Job.{JobRead}
+use Rattle.spec_job.specs.Job.JobRead.{badLine}
+
+-- one byte more
+pub hex-more : (s : List ℕ) (b : ℕ) → hexOf (s ++ (b ∷ [])) ≡ hexOf s ++ padded 2 (hexUpper b)
+unfolding hexOf
+hex-more [] b = append-nil (padded 2 (hexUpper b))
+hex-more (a ∷ s) b = ap (λ (l : List ℕ). padded 2 (hexUpper a) ++ l) (hex-more s b) ∙ sym (append-assoc (padded 2 (hexUpper a)) (hexOf s) (padded 2 (hexUpper b)))
+
+pub hex-none : hexOf [] ≡ []
+unfolding hexOf
+hex-none = refl
+
+pair-length : (b : ℕ) → b < 256 → length (padded 2 (hexUpper b)) ≡ 2
+pair-length b h =
+    let wide : b < 2 ^ 64 = omega arith in
+    let two : b < 16 ^ 2 = omega arith in
+    padded-length 2 (hexUpper b) (hexUpper-few 1 b wide two)
+
+pub hex-longer : (s : List ℕ) (b i : ℕ) → b < 256 → length (hexOf s) ≡ 2 * i → length (hexOf (s ++ (b ∷ []))) ≡ 2 * (i + 1)
+hex-longer s b i h e = ap length (hex-more s b) ∙ omega (arith, e, length-append (hexOf s) (padded 2 (hexUpper b)), pair-length b h)
+
+-- the loop over bytes
+module _ (s : List ℕ) (i : ℕ) {out₀ out : List ℕ} {at k : ℕ} (w : Put out₀ at (hexOf (take i s)) out k) (l : length (hexOf (take i s)) ≡ 2 * i) where
+  pub hex-turn : {out′ : List ℕ} {k′ : ℕ} → i < length s → getD s i 0 < 256 → Put out k (padded 2 (hexUpper (getD s i 0))) out′ k′
+      → Put out₀ at (hexOf (take (i + 1) s)) out′ k′ × (length (hexOf (take (i + 1) s)) ≡ 2 * (i + 1))
+  hex-turn h b p =
+      let next : take (i + 1) s ≡ take i s ++ (getD s i 0 ∷ []) = rw add-one (take-suc _ _ 0 h) in
+      (same-piece (sym (ap hexOf next ∙ hex-more (take i s) (getD s i 0))) (w then p), ap (λ (m : List ℕ). length (hexOf m)) next ∙ hex-longer (take i s) (getD s i 0) i b l)
+
+  pub hex-end : length s ≤ i → i ≤ length s → Put out₀ at (hexOf s) out k × (length (hexOf s) ≡ 2 * length s)
+  hex-end h g =
+      let all : take i s ≡ s = take-all _ _ h in
+      (same-piece (ap hexOf all) w, sym (ap (λ (m : List ℕ). length (hexOf m)) all) ∙ (l ∙ omega arith))
+
+pub body-length : (s : List ℕ) → length (hexOf s) ≡ 2 * length s → length (bodyText s) ≡ 2 * length s + 6
+unfolding bodyText text
+body-length s e = omega (arith, e, length-append (text "body=" ++ hexOf s) (text "\n"), length-append (text "body=") (hexOf s))
+
+-- three numbers of at most 20 digits
+refused-length : (number place operand : ℕ) → length (refusedText number place operand) ≤ 100
+unfolding refusedText text
+refused-length number place operand =
+    let a = text "refused=" ++ decimal number in
+    let b = a ++ text " place=" ++ decimal place in
+    let c = b ++ text " operand=" ++ decimal operand in
+    omega (
+      arith,
+      length-append (text "refused=") (decimal number),
+      length-append a (text " place="),
+      length-append (a ++ text " place=") (decimal place),
+      length-append b (text " operand="),
+      length-append (b ++ text " operand=") (decimal operand),
+      length-append c (text "\n"),
+      decimal-length number,
+      decimal-length place,
+      decimal-length operand,
+    )
+
+pub refusal-prints : {before after : List ℕ} {r : ℕ} (number place operand : ℕ) → Put before 0 (refusedText number place operand) after r → Prints (refusedText number place operand) before after r
+refusal-prints number place operand w = record { put = w; few = omega (arith, refused-length number place operand) }
+
+-- the same text by another name
+pub same-print : {p q before after : List ℕ} {r : ℕ} → p ≡ q → Prints p before after r → Prints q before after r
+same-print e w = rw e at w
+
+-- a malformed line
+pub line-prints : (job : List ℕ) {x : JobRead} {bad : ℕ} {before after : List ℕ} {r : ℕ} → x ≡ badLine bad → Put before 0 (refusedText 1 bad 0) after r → Prints (printedJob job x) before after r
+unfolding jobRun formOf printedOf
+line-prints job {bad = bad} e w = rw e (refusal-prints 1 bad 0 w)

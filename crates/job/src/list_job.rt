@@ -1,0 +1,133 @@
+// A job that lists a body: the listing stands where it is printed.
+ghost use mathlib.Core.Path.{_≡_};
+ghost use mathlib.Core.List.{List};
+ghost use Prim.Native.Nat.{ℕ, _-_, _≤_};
+ghost use lib.ListN.{length, replicate};
+ghost use Rattle.limits.specs.Limits.{jobLimit, bodyLimit, jobOutput};
+ghost use Rattle.spec_sheet.specs.Line.{Op};
+ghost use Rattle.spec_sheet.specs.Sheet as sheets;
+ghost use Rattle.spec_sheet.specs.Sheet.{typeRows, infoRows};
+ghost use Rattle.spec_job.specs.Job.{withBody};
+ghost use Rattle.spec_job.specs.Job.JobRead.{listJob};
+ghost use Rattle.spec_job.specs.Printed.{listUnder, printedOf, printedJob};
+ghost use Rattle.listing.specs.Answers.{listReport, Ended};
+ghost use Rattle.job.specs.Prints.{Prints, Told};
+use crate::printed::refused;
+use job_read::reader::BodyAnswer;
+use listing::answer::ListAnswer;
+use operation::inputs::Inputs;
+use slices::write::clear;
+
+// Space for a job's body: two digits make a byte, so that half of the job's limit is enough. No contract, since the reader
+// says what it leaves.
+fn body_space() -> [u8; 32768] {
+    [0; 32768]
+}
+
+// The largest opcode, from one more than it.
+fn largest_of(above: usize) -> usize
+    ensures { λ r. ⌜ r ≡ above - 1 ⌝ }
+{
+    if above == 0 {
+        return 0;
+    }
+    above - 1
+}
+
+// Lists the body of a job whose lines are in order: 17, then as listing a body. The program lends 4,096 label entries.
+fn list_inputs(
+    job: &[u8],
+    types: &[[u8; 8]; 256],
+    ops: &[[usize; 4]; 256],
+    above: usize,
+    bytes: &[u8],
+    ends: &[u32],
+    body: &[u8],
+    out: &mut [u8],
+) -> ListAnswer
+    requires { ⌜ length (now body) ≤ bodyLimit ⌝ }
+    ensures { λ r. ⌜ ((os : List Op) → now (types .entry) ≡ typeRows os → now (ops .entry) ≡ infoRows os → above ≡ sheets.above 0 os → Ended (listUnder (now (job .entry)) (record { opcodes = os; bytes = now (bytes .entry); ends = now (ends .entry) }) (now (body .entry))) (now (out .entry)) (now (out .exit)) r) ⌝ }
+{
+    let i = operation::inputs::table_inputs(largest_of(above), bytes, ends);
+    let Inputs::Ready(last) = i else {
+        clear(out);
+        return listing::list::refused_inputs(i);
+    };
+    listing::list::list_under(
+        true,
+        true,
+        true,
+        job,
+        types,
+        ops,
+        last,
+        bytes,
+        ends,
+        body,
+        limits::JOB_LABELS,
+        out,
+    )
+}
+
+// The length of a listing, which stands in `text` already, or the line that a refusal prints.
+fn put_listed(a: ListAnswer, text: &mut [u8]) -> usize
+    ensures { λ r. ⌜ Told (listReport a) (now (text .entry)) (now (text .exit)) r ⌝ }
+{
+    let n = listing::answer::list_numbers(a);
+    if n.number == 0 {
+        return n.length as usize;
+    }
+    crate::printed::put_refused(text, 0, n.number, n.place, n.operand)
+}
+
+// Prints the listing of a body. The text's front is the output that the program lends.
+fn print_listing(
+    job: &[u8],
+    types: &[[u8; 8]; 256],
+    ops: &[[usize; 4]; 256],
+    above: usize,
+    bytes: &[u8],
+    ends: &[u32],
+    body: &[u8],
+    text: &mut [u8],
+) -> usize
+    requires { ⌜ (length (now body) ≤ bodyLimit) × (jobOutput ≤ length (now text)) × (now text ≡ replicate (length (now text)) 0) ⌝ }
+    ensures { λ r. ⌜ ((os : List Op) → now (types .entry) ≡ typeRows os → now (ops .entry) ≡ infoRows os → above ≡ sheets.above 0 os → Prints (printedOf (λ (t : List ℕ). t) (listUnder (now (job .entry)) (record { opcodes = os; bytes = now (bytes .entry); ends = now (ends .entry) }) (now (body .entry)))) (now (text .entry)) (now (text .exit)) r) ⌝ }
+{
+    let a = list_inputs(
+        job,
+        types,
+        ops,
+        above,
+        bytes,
+        ends,
+        body,
+        &mut text[0..limits::JOB_OUTPUT],
+    );
+    put_listed(a, text)
+}
+
+// Prints the listing of the job's body, which stands at `at`, under the inputs that were read before it.
+pub fn print_list(
+    job: &[u8],
+    at: usize,
+    line: usize,
+    types: &[[u8; 8]; 256],
+    ops: &[[usize; 4]; 256],
+    above: usize,
+    bytes: &[u8],
+    ends: &[u32],
+    text: &mut [u8],
+) -> usize
+    requires { ⌜ (length (now job) ≤ jobLimit) × (line ≤ jobLimit) × (jobOutput ≤ length (now text)) × (now text ≡ replicate (length (now text)) 0) ⌝ }
+    ensures { λ r. ⌜ ((os : List Op) → now (types .entry) ≡ typeRows os → now (ops .entry) ≡ infoRows os → above ≡ sheets.above 0 os → Prints (printedJob (now (job .entry)) (withBody (now (job .entry)) at line (listJob (record { opcodes = os; bytes = now (bytes .entry); ends = now (ends .entry) })))) (now (text .entry)) (now (text .exit)) r) ⌝ }
+{
+    let mut body = body_space();
+    let b = job_read::reader::body_at(job, at, line, &mut body);
+    match b {
+        BodyAnswer::Read(n) => {
+            print_listing(job, types, ops, above, bytes, ends, &body[0..n], text)
+        }
+        BodyAnswer::BadLine(bad) => refused(text, 1, bad),
+    }
+}

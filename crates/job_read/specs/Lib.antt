@@ -1,0 +1,3 @@
+pub mod HexAnswers
+pub mod TableAnswers
+pub mod ReaderAnswers

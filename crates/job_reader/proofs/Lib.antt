@@ -1,4 +1,0 @@
-pub mod EditionLaws
-pub mod BodyLaws
-pub mod AskedLaws
-pub mod ReadLaws

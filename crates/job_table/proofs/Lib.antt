@@ -1,3 +1,0 @@
-pub mod HexAnswerLaws
-pub mod StringsLoop
-pub mod TableAnswerLaws

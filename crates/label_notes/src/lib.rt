@@ -1,2 +1,0 @@
-// The label offsets of one instruction, noted in marks and counted.
-pub mod offsets;

@@ -1,3 +1,0 @@
-pub mod WalkLoop
-pub mod MarkLaws
-pub mod CollectLaws

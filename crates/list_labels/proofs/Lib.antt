@@ -1,0 +1,13 @@
+pub mod JumpLaws
+pub mod WalkLoop
+pub mod FlagLaws
+pub mod CollectLaws
+pub mod NoteLaws
+pub mod TargetLaws
+pub mod TargetsLoop
+pub mod InstructionLaws
+pub mod FlowLaws
+pub mod DifferentLaws
+pub mod PartLaws
+pub mod PartLoop
+pub mod CountLaws

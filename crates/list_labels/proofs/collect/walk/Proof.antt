@@ -1,0 +1,123 @@
+use native.Mathlib.Omega.{arith}
+use Prim.Native.Nat.{_-_}
+use lib.ListN.{length}
+use Rattle.list_labels.specs.Notes.{notesOf}
+use Rattle.list_labels.specs.Collecting.{tables}
+use Rattle.list_labels.proofs.WalkLoop.{Going, start, ended, stopped, broken, turn, ended-beyond, ended-cut, ended-met}
+use borrow.Author.Needs.{needs}
+use Rattle.list_labels.proofs.collect.walk.Statement.{statement}
+use Rattle.list_labels.proofs.collect.walk.Tie as tie
+
+abbrev Inv-loop : tie.InvT-loop
+Inv-loop text types ops last s marks₀ stored₀ counts₀ at₀ flags stored counts at = Going (tables text types ops) last s (notesOf marks₀ stored₀ counts₀) (notesOf flags stored counts) at
+
+abbrev μ-loop : tie.MeasureT-loop
+μ-loop text types ops last s marks₀ stored₀ counts₀ at₀ flags stored counts at = length s - at
+
+loop-holds : tie.Need-loop-holds Inv-loop μ-loop
+loop-holds c = start _ _ _ _ _
+
+shared-slice-read-op : tie.Need-shared-slice-read-op Inv-loop μ-loop
+shared-slice-read-op c = search needs
+
+cast-op : tie.Need-cast-op Inv-loop μ-loop
+cast-op c = omega (arith, c .shared-slice-known3 .given (c .before .before .loop .at))
+
+same-length : tie.Need-same-length Inv-loop μ-loop
+same-length c = c .before .before .before .loop .inv .same-flags
+
+same-length-2 : tie.Need-same-length-2 Inv-loop μ-loop
+same-length-2 c = c .before .before .before .loop .inv .same-stored
+
+returns : tie.Need-returns Inv-loop μ-loop
+returns c =
+    let l = c .before .before .before .loop in
+    let r = ended-beyond _ _ _ (c .before .before .before .before .before .before .before .before .args .s .now) _ _ _ (stopped _ _ _ _ _ _ (l .inv) (c .before .before .loop-test .taken) (c .if1 .taken)) in
+    (r .answered, r .left-noted)
+
+mul-row : tie.Need-mul-row Inv-loop μ-loop
+mul-row c = omega (arith, c .before .shared-slice-known3 .given (c .before .before .before .loop .at))
+
+element-copy-out-row : tie.Need-element-copy-out-row Inv-loop μ-loop
+element-copy-out-row c = c .before .shared-slice-known3 .given (c .before .before .before .loop .at) .fits
+
+instruction-length-requires : tie.Need-instruction-length-requires Inv-loop μ-loop
+instruction-length-requires c κs = search needs
+
+sub-if2 : tie.Need-sub-if2 Inv-loop μ-loop
+sub-if2 c = search needs
+
+same-length-3 : tie.Need-same-length-3 Inv-loop μ-loop
+same-length-3 c = c .before .before .before .before .before .before .loop .inv .same-flags
+
+same-length-4 : tie.Need-same-length-4 Inv-loop μ-loop
+same-length-4 c = c .before .before .before .before .before .before .loop .inv .same-stored
+
+returns-2 : tie.Need-returns-2 Inv-loop μ-loop
+returns-2 c =
+    let l = c .before .before .before .before .before .before .loop in
+    let q = broken _ _ _ _ _ _ (l .inv) (c .before .before .before .before .before .loop-test .taken) (c .before .before .before .if1 .left) _ (c .before .instruction-length .ensures .0) (c .if2 .taken) in
+    let r = ended-cut _ _ _ (c .before .before .before .before .before .before .before .before .before .before .before .args .s .now) _ _ _ q in
+    (r .answered, r .left-noted)
+
+mul-info : tie.Need-mul-info Inv-loop μ-loop
+mul-info c = omega (arith, c .before .before .before .before .shared-slice-known3 .given (c .before .before .before .before .before .before .loop .at))
+
+element-copy-out-info : tie.Need-element-copy-out-info Inv-loop μ-loop
+element-copy-out-info c = c .before .before .before .before .shared-slice-known3 .given (c .before .before .before .before .before .before .loop .at) .fits
+
+note-instruction-requires : tie.Need-note-instruction-requires Inv-loop μ-loop
+note-instruction-requires c κs = search needs
+
+add-at : tie.Need-add-at Inv-loop μ-loop
+add-at c = search needs
+
+loop-less : tie.Need-loop-less Inv-loop μ-loop
+loop-less c = search needs
+
+loop-again : tie.Need-loop-again Inv-loop μ-loop
+loop-again c =
+    let l = c .before .before .before .before .before .before .before .before .before .before .before .before .before .before .loop in
+    let w = c .before .before .before .before .note-instruction in
+    turn _ _ _ _ _ _ (l .inv) (c .before .before .before .before .before .before .before .before .before .before .before .before .before .loop-test .taken) (c .before .before .before .before .before .before .before .before .before .before .before .if1 .left) _ (c .before .before .before .before .before .before .before .before .before .instruction-length .ensures .0) _ (c .before .before .before .before .before .before .before .before .if2 .left) (w .kept .1 .1 .1 .1 .1 .1 .0) (w .kept .1 .1 .1 .1 .1 .1 .1 .0) (w .ensures .0) (w .ensures .1)
+
+same-length-5 : tie.Need-same-length-5 Inv-loop μ-loop
+same-length-5 c = c .before .loop .inv .same-flags
+
+same-length-6 : tie.Need-same-length-6 Inv-loop μ-loop
+same-length-6 c = c .before .loop .inv .same-stored
+
+returns-3 : tie.Need-returns-3 Inv-loop μ-loop
+returns-3 c =
+    let l = c .before .loop in
+    let r = ended-met _ _ _ (c .before .before .before .before .before .before .args .s .now) _ (ended _ _ _ _ _ _ (l .inv) (c .loop-test .left)) (omega (arith, l .inv .few, l .inv .inside)) in
+    (r .answered, r .left-noted)
+
+pub walk-spec : {M : Type 1} → statement M
+walk-spec =
+    tie.close
+    (tie.spec
+    Inv-loop
+    μ-loop
+    loop-holds
+    shared-slice-read-op
+    cast-op
+    same-length
+    same-length-2
+    returns
+    mul-row
+    element-copy-out-row
+    instruction-length-requires
+    sub-if2
+    same-length-3
+    same-length-4
+    returns-2
+    mul-info
+    element-copy-out-info
+    note-instruction-requires
+    add-at
+    loop-less
+    loop-again
+    same-length-5
+    same-length-6
+    returns-3)

@@ -1,0 +1,5 @@
+pub mod Collecting
+pub mod Notes
+pub mod InstructionNotes
+pub mod FlowNames
+pub mod Parts

@@ -1,0 +1,4 @@
+pub mod TitleLaws
+pub mod ModuleLaws
+pub mod ModuleLoop
+pub mod ModuleEnd

@@ -1,0 +1,196 @@
+// Listing a whole module.
+ghost use mathlib.Core.Path.{_≡_};
+ghost use mathlib.Core.List.{List};
+ghost use Prim.Native.Nat.{ℕ, _+_, min, max};
+ghost use lib.ListN.{length, replicate};
+ghost use Rattle.limits.specs.Limits.{listingLimit};
+ghost use Rattle.spec_answers.specs.Report.{refusal};
+ghost use Rattle.spec_listing.specs.Listing.{Listed};
+ghost use Rattle.spec_listing.specs.Listing.Listed.{refused};
+ghost use Rattle.spec_listing.specs.Module.{listAll};
+ghost use Rattle.spec_listing.specs.Operation as operation;
+ghost use Rattle.spec_listing.specs.Operation.{listOutcome};
+ghost use Rattle.listing.specs.Parts.{optionsOf};
+ghost use Rattle.spec_inputs.specs.Context.{contextFrom};
+ghost use Rattle.listing.specs.Answers.{listReport, Ended};
+ghost use Rattle.listing.specs.Functions.{areaOf};
+ghost use Rattle.list_module.specs.Modules.{partRefusal, ModuleWritten};
+use crate::function_part::FunctionPart;
+use listing::answer::ListAnswer;
+use operation::inputs::Inputs;
+use slices::write::clear;
+
+// The first position past the largest listing.
+const PAST_LIMIT: usize = 1048577;
+
+// A position that stays there once it is past the limit, so that a later function's can be counted.
+fn capped(k: usize) -> usize
+    ensures { λ r. ⌜ r ≡ min k (listingLimit + 1) ⌝ }
+{
+    if PAST_LIMIT < k { PAST_LIMIT } else { k }
+}
+
+fn larger(a: usize, b: usize) -> usize
+    ensures { λ r. ⌜ r ≡ max a b ⌝ }
+{
+    if a < b { b } else { a }
+}
+
+// Lists all functions by index, up to one that is refused. Label entries are used for one function at a time.
+fn list_functions(
+    offsets: bool,
+    labels: bool,
+    texts: bool,
+    sheet: &[u8],
+    types: &[[u8; 8]; 256],
+    ops: &[[usize; 4]; 256],
+    last: usize,
+    bytes: &[u8],
+    ends: &[u32],
+    functions: &[u32],
+    area: &[u8],
+    base: u32,
+    out: &mut [u8],
+) -> FunctionPart
+    ensures { λ r. ⌜ ModuleWritten (listAll (optionsOf offsets labels texts) (contextFrom (now (sheet .entry)) (now (types .entry)) (now (ops .entry)) (now (bytes .entry)) (now (ends .entry))) last (areaOf (now (functions .entry)) (now (area .entry)) base)) (now (out .entry)) (now (out .exit)) r ⌝ }
+{
+    let mut id: usize = 0;
+    let mut at: usize = 0;
+    let mut most: usize = 0;
+    while id < functions.len() / 3 {
+        let p = crate::function_part::list_function_in(
+            offsets,
+            labels,
+            texts,
+            sheet,
+            types,
+            ops,
+            last,
+            bytes,
+            ends,
+            functions,
+            area,
+            base,
+            id,
+            out,
+            at,
+        );
+        let FunctionPart::Listed(k, entries) = p else {
+            return p;
+        };
+        at = capped(k);
+        most = larger(most, entries);
+        id += 1;
+    }
+    FunctionPart::Listed(at, most)
+}
+
+// What a function that is refused answers.
+fn refused_part(p: FunctionPart) -> ListAnswer
+    ensures { λ r. ⌜ ((n place : ℕ) → partRefusal p ≡ refused n place 0 → listReport r ≡ refusal n place 0) ⌝ }
+{
+    match p {
+        FunctionPart::Listed(_, _) => ListAnswer::Done(0),
+        FunctionPart::NoFunction(id) => ListAnswer::NoFunction(id),
+        FunctionPart::TooLarge => ListAnswer::TooLarge,
+        FunctionPart::Title(id) => ListAnswer::Long(id),
+        FunctionPart::Beyond(at) => ListAnswer::Beyond(at),
+        FunctionPart::Cut(at) => ListAnswer::Cut(at),
+        FunctionPart::Long(at) => ListAnswer::Long(at),
+    }
+}
+
+// The end of a module's listing, where `lent` label entries are lent: 18 and 19 of the whole come last.
+fn end_module(p: FunctionPart, lent: usize, out: &mut [u8]) -> ListAnswer
+    ensures { λ r. ⌜ ((x : Listed) (before : List ℕ) → ModuleWritten x before (now (out .entry)) p → Ended (listOutcome lent x) before (now (out .exit)) r) ⌝ }
+{
+    let FunctionPart::Listed(k, entries) = p else {
+        clear(out);
+        return refused_part(p);
+    };
+    if limits::LISTING_LIMIT < k {
+        clear(out);
+        return ListAnswer::TooLarge;
+    }
+    listing::answer::measure(k, entries, lent, out)
+}
+
+// Lists a module under the tables of a sheet, whose names are parts of `sheet`.
+fn module_under(
+    offsets: bool,
+    labels: bool,
+    texts: bool,
+    sheet: &[u8],
+    types: &[[u8; 8]; 256],
+    ops: &[[usize; 4]; 256],
+    last: usize,
+    bytes: &[u8],
+    ends: &[u32],
+    functions: &[u32],
+    area: &[u8],
+    base: u32,
+    lent: usize,
+    out: &mut [u8],
+) -> ListAnswer
+    ensures { λ r. ⌜ Ended (listOutcome lent (listAll (optionsOf offsets labels texts) (contextFrom (now (sheet .entry)) (now (types .entry)) (now (ops .entry)) (now (bytes .entry)) (now (ends .entry))) last (areaOf (now (functions .entry)) (now (area .entry)) base))) (now (out .entry)) (now (out .exit)) r ⌝ }
+{
+    let p = list_functions(
+        offsets,
+        labels,
+        texts,
+        sheet,
+        types,
+        ops,
+        last,
+        bytes,
+        ends,
+        functions,
+        area,
+        base,
+        out,
+    );
+    end_module(p, lent, out)
+}
+
+// Lists all functions of an area: `functions` are triples of offset, size and name id, and offsets count from `base`.
+pub fn list_module(
+    offsets: bool,
+    labels: bool,
+    texts: bool,
+    sheet: &[u8],
+    bytes: &[u8],
+    ends: &[u32],
+    functions: &[u32],
+    area: &[u8],
+    base: u32,
+    out: &mut [u8],
+    entries: &mut [u32],
+) -> ListAnswer
+    ensures { λ r. ⌜ Ended (operation.listModule (optionsOf offsets labels texts) (now (sheet .entry)) (now (bytes .entry)) (now (ends .entry)) (areaOf (now (functions .entry)) (now (area .entry)) base) (length (now (entries .entry)))) (now (out .entry)) (now (out .exit)) r ⌝ }
+    ensures { λ _. ⌜ now (entries .exit) ≡ replicate (length (now (entries .entry))) 0 ⌝ }
+{
+    slices::clearing::clear_entries(entries);
+    let mut types = [[0u8; 8]; 256];
+    let mut ops = [[0usize; 4]; 256];
+    let i = operation::inputs::read_inputs(sheet, bytes, ends, &mut types, &mut ops);
+    let Inputs::Ready(last) = i else {
+        clear(out);
+        return listing::list::refused_inputs(i);
+    };
+    module_under(
+        offsets,
+        labels,
+        texts,
+        sheet,
+        &types,
+        &ops,
+        last,
+        bytes,
+        ends,
+        functions,
+        area,
+        base,
+        entries.len(),
+        out,
+    )
+}

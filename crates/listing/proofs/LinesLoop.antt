@@ -1,0 +1,230 @@
+-- The loop that writes the lines of a body. Assumes nothing.
+use mathlib.Core.Path.{_≡_, refl, ap, _∙_}
+use mathlib.Core.Bool.{Bool, true, false}
+use mathlib.Core.List.{List, [], _∷_, _++_}
+use Prim.Native.Nat.{ℕ, _+_, _-_, _*_, _^_, _<_, _≤_, min}
+use native.Mathlib.Omega.{arith}
+use lib.Dec.{eqb}
+use lib.ListN.{length, getD, length-append}
+use borrow.Author.Tests.{lt-ltb, le-ltb}
+use Rattle.lists.specs.Choice.{pick, both}
+use Rattle.lists.specs.Text.{text}
+use Rattle.lists.specs.Found.{Found}
+use Rattle.lists.specs.Found.Found.{found, missing}
+use Rattle.lists.specs.Write.{Put, top}
+use Rattle.lists.proofs.Writes.{_then_, same-piece}
+use Rattle.lists.proofs.LeftToWrite.{Left, left-all, left-turn, left-none}
+use Rattle.spec_numbers.specs.Print.{decimal}
+use Rattle.spec_numbers.proofs.PrintLaws.{decimal-length}
+use Rattle.spec_body.specs.Record.{lengthOf, recordOf, offsetOf}
+use Rattle.spec_body.specs.Decode.{rowAt, decodeBody}
+use Rattle.spec_body.proofs.DecodeLaws.{Decoding, body-stands}
+use Rattle.spec_body.proofs.DecodeLaws.Decoding.{ended, more}
+use Rattle.spec_inputs.specs.Context.{Context, contextFrom}
+use Rattle.spec_listing.specs.Options.{Options}
+use Rattle.spec_listing.specs.Line.{instructionText}
+use Rattle.spec_listing.specs.Labels.{labelOffsets}
+use Rattle.spec_listing.specs.Listing.{labelLine, labelText, instructionLine, longLine, listedText}
+use Rattle.listing.specs.Parts.{Decodes, recordsOf, Flagged, flaggedText, optionsOf}
+
+-- the records of a body that decodes
+pub records-are : (types : List (List ℕ)) (last : ℕ) (s : List ℕ) (d : Decodes types last s) → Decoding types last s 0 (recordsOf (decodeBody types last s))
+unfolding recordsOf
+records-are types last s d = rw (d .are) (body-stands types last s (d .records) (d .are))
+
+-- what the flags print is what the labels print
+marked-label : (o : Options) (labels flags indent : List ℕ) (at : ℕ) → Flagged flags labels → at < length flags → flaggedText (o .showLabels) flags indent at ≡ labelText o labels indent at
+unfolding flaggedText labelText
+marked-label o labels flags indent at m h = rw (m at h)
+
+-- what follows it at least, and at most
+short-pick : (x : Bool) (t : List ℕ) (n : ℕ) → length t ≤ n → length (pick x t []) ≤ n
+short-pick true t n h = h
+short-pick false t n h = omega arith
+
+label-length : (indent : List ℕ) (at : ℕ) → length (labelLine indent at) ≤ length indent + 23
+unfolding labelLine text
+label-length indent at =
+    let front = indent ++ (76 ∷ []) in
+    omega (
+      arith,
+      length-append indent (76 ∷ []),
+      length-append front (decimal at),
+      length-append (front ++ decimal at) (58 ∷ 10 ∷ []),
+      decimal-length at,
+    )
+
+label-short : (show : Bool) (flags indent : List ℕ) (at : ℕ) → length indent ≤ 2 → length (flaggedText show flags indent at) ≤ 30
+unfolding flaggedText
+label-short show flags indent at h =
+    short-pick (both show (eqb (getD flags at 0) 1)) (labelLine indent at) 30 (omega (arith, label-length indent at))
+
+-- what is printed and how
+pub record Printing : Type 0 where
+  pub o : Options
+  pub e : Context
+  pub labels : List ℕ
+  pub flags : List ℕ
+  pub indent : List ℕ
+  pub types : List (List ℕ)
+  pub last : ℕ
+  pub s : List ℕ
+
+abbrev recordAt : Printing → ℕ → List ℕ
+recordAt p at = recordOf (rowAt (p .types) (p .s) at) (p .s) at
+
+abbrev pub sizeAt : Printing → ℕ → ℕ
+sizeAt p at = lengthOf (rowAt (p .types) (p .s) at)
+
+-- the lines of records, an instruction's own text and its line, and the first line that is too long
+abbrev pub linesIn : Printing → List (List ℕ) → List ℕ
+linesIn p rs = listedText (p .o) (p .e) (p .labels) (p .indent) rs
+
+abbrev textIn : Printing → List ℕ → List ℕ
+textIn p r = instructionText (p .o .showOffsets) (p .o .resolveStrings) (p .e) r
+
+abbrev bare : Printing → List ℕ → List ℕ
+bare p r = p .indent ++ textIn p r
+
+abbrev pub longIn : Printing → List (List ℕ) → Found
+longIn p rs = longLine (p .o) (p .e) (p .indent) rs
+
+-- the records behind `at` are still to be written, and none before them has too long a line
+pub record Going (p : Printing) (rs : List (List ℕ)) (out₀ : List ℕ) («from» : ℕ) (out : List ℕ) (k at : ℕ) : Type 0 where
+  pub rest : List (List ℕ)
+  pub stand : Decoding (p .types) (p .last) (p .s) at rest
+  pub writing : Left (linesIn p rs) out₀ «from» (linesIn p rest) out k
+  pub long : longIn p rs ≡ longIn p rest
+  pub low : k ≤ «from» + at * 8192
+
+-- the label's line and the instruction's were written, from k over a to c
+pub record Line (p : Printing) (at : ℕ) (out : List ℕ) (k : ℕ) (out′ : List ℕ) (a c : ℕ) : Type 0 where
+  pub o₁ : List ℕ
+  pub label-put : Put out k (flaggedText (p .o .showLabels) (p .flags) (p .indent) at) o₁ a
+  pub o₂ : List ℕ
+  pub b : ℕ
+  pub indent-put : Put o₁ a (p .indent) o₂ b
+  pub text-put : Put o₂ b (textIn p (recordAt p at)) out′ c
+
+-- what the loop is given
+pub record Given (p : Printing) («from» : ℕ) : Type 0 where
+  pub marked : Flagged (p .flags) (p .labels)
+  pub flags-room : length (p .s) ≤ length (p .flags)
+  pub body-size : length (p .s) ≤ 65536
+  pub indent-size : length (p .indent) ≤ 2
+  pub from-small : «from» ≤ 2097152
+
+-- the record that stands at a place inside the body, and those behind it
+data Next (types : List (List ℕ)) (last : ℕ) (s : List ℕ) (at : ℕ) (rest : List (List ℕ)) : Type 0 where
+  one : (more : List (List ℕ)) → rest ≡ recordOf (rowAt types s at) s at ∷ more → getD s at 0 ≤ last
+      → at + lengthOf (rowAt types s at) ≤ length s → Decoding types last s (at + lengthOf (rowAt types s at)) more → Next types last s at rest
+
+next : {types : List (List ℕ)} {last : ℕ} {s : List ℕ} {at : ℕ} {rest : List (List ℕ)} → Decoding types last s at rest → at < length s → Next types last s at rest
+next (ended g) h = absurd (omega arith)
+next (more g l k d) h = one _ refl l k d
+
+none-left : {types : List (List ℕ)} {last : ℕ} {s : List ℕ} {at : ℕ} {rest : List (List ℕ)} → Decoding types last s at rest → length s ≤ at → rest ≡ []
+none-left (ended g) h = refl
+none-left (more g l k d) h = absurd (omega arith)
+
+-- a line is within the limit, or too long, by the positions around it
+line-size : (a n c : ℕ) → a ≤ 2 ^ 40 → c ≡ min (a + n) top → c - a ≤ 4096 → (n ≤ 4096) × (c ≡ a + n)
+line-size a n c h e k = (omega (arith, e), omega (arith, e))
+
+line-over : (a n c : ℕ) → a ≤ 2 ^ 40 → c ≡ min (a + n) top → 4096 < c - a → 4096 < n
+line-over a n c h e k = omega (arith, e)
+
+-- the lines of a record are its label's and its own
+lines-more : (p : Printing) (r : List ℕ) (rest : List (List ℕ)) → linesIn p (r ∷ rest) ≡ labelText (p .o) (p .labels) (p .indent) (offsetOf r) ++ bare p r ++ (10 ∷ []) ++ linesIn p rest
+unfolding listedText instructionLine text
+lines-more p r rest = refl
+
+line-fits : (p : Printing) (r : List ℕ) (rest : List (List ℕ)) → length (bare p r) ≤ 4096 → longIn p (r ∷ rest) ≡ longIn p rest
+unfolding longLine instructionLine
+line-fits p r rest h = rw (le-ltb 4096 (length (bare p r)) h)
+
+line-long : (p : Printing) (r : List ℕ) (rest : List (List ℕ)) → 4096 < length (bare p r) → longIn p (r ∷ rest) ≡ found (offsetOf r)
+unfolding longLine instructionLine
+line-long p r rest h = rw (lt-ltb 4096 (length (bare p r)) h)
+
+own-line : {p : Printing} {at k a c : ℕ} {out out′ : List ℕ} (l : Line p at out k out′ a c) → Put (l .o₁) a (bare p (recordAt p at)) out′ c
+own-line l = l .indent-put then l .text-put
+
+inside-next : (p : Printing) {at : ℕ} {rest : List (List ℕ)} → Next (p .types) (p .last) (p .s) at rest → at + sizeAt p at ≤ length (p .s)
+inside-next p (one rest′ q y z d) = z
+
+long-from : (p : Printing) {at : ℕ} {rest : List (List ℕ)} → Next (p .types) (p .last) (p .s) at rest → 4096 < length (bare p (recordAt p at)) → longIn p rest ≡ found at
+long-from p (one rest′ q y z d) h = rw q (line-long p (recordAt p _) rest′ h)
+
+module _ {p : Printing} {rs : List (List ℕ)} {out₀ : List ℕ} {«from» : ℕ} where
+  pub start : Decoding (p .types) (p .last) (p .s) 0 rs → length out₀ ≤ top → «from» ≤ top → Going p rs out₀ «from» out₀ «from» 0
+  start d h g = record { rest = rs; stand = d; writing = left-all h g; long = refl; low = omega arith }
+
+  -- an instruction that is reached is whole
+  pub inside : {out : List ℕ} {k at : ℕ} → Going p rs out₀ «from» out k at → at < length (p .s) → at + sizeAt p at ≤ length (p .s)
+  inside g h = inside-next p (next (g .stand) h)
+
+  -- where a line starts, counting did not stop
+  low-start : {at k a c : ℕ} {out out′ : List ℕ} → Given p «from» → Going p rs out₀ «from» out k at → at < length (p .s) → Line p at out k out′ a c → (a ≤ k + 30) × (a ≤ 2 ^ 40)
+  low-start {at} m g h l =
+      let w = l .label-put .next in
+      let q = label-short (p .o .showLabels) (p .flags) (p .indent) at (m .indent-size) in
+      let z = g .low in
+      let y = m .from-small in
+      let x = m .body-size in
+      (omega (arith, w, q), omega (arith, w, q, z, y, x))
+
+  pub stopped : {at k a c : ℕ} {out out′ : List ℕ} → Given p «from» → Going p rs out₀ «from» out k at → at < length (p .s) → Line p at out k out′ a c → 4096 < c - a
+      → longIn p rs ≡ found at
+  stopped {at} {k} {a} {c} m g h l q =
+      g .long ∙ long-from p (next (g .stand) h) (line-over a _ c (low-start m g h l .1) (own-line l .next) q)
+
+  turn-on : {at k a c k′ : ℕ} {out out′ out″ : List ℕ} → Given p «from» → (g : Going p rs out₀ «from» out k at) → at < length (p .s) → Line p at out k out′ a c → c - a ≤ 4096
+      → Put out′ c (10 ∷ []) out″ k′ → Next (p .types) (p .last) (p .s) at (g .rest) → Going p rs out₀ «from» out″ k′ (at + sizeAt p at)
+  turn-on {at} {k} {a} {c} m g h l q w (one rest′ y x z d) =
+      let size = line-size a (length (bare p (recordAt p at))) c (low-start m g h l .1) (own-line l .next) q in
+      record {
+        rest = rest′;
+        stand = d;
+        writing = left-turn (g .writing) (ap (linesIn p) y ∙ lines-more p (recordAt p at) rest′)
+            ((same-piece (marked-label (p .o) (p .labels) (p .flags) (p .indent) at (m .marked) (omega (arith, m .flags-room))) (l .label-put) then own-line l) then w);
+        long = g .long ∙ (ap (longIn p) y ∙ line-fits p (recordAt p at) rest′ (size .0));
+        low = omega (arith, w .next, low-start m g h l .0, g .low);
+      }
+
+  pub turn : {at k a c k′ size : ℕ} {out out′ out″ : List ℕ} → Given p «from» → Going p rs out₀ «from» out k at → at < length (p .s) → Line p at out k out′ a c → c - a ≤ 4096
+      → Put out′ c (10 ∷ []) out″ k′ → size ≡ sizeAt p at → Going p rs out₀ «from» out″ k′ (at + size)
+  turn m g h l q w z = rw z (turn-on m g h l q w (next (g .stand) h))
+
+  pub finished : {at k : ℕ} {out : List ℕ} → Going p rs out₀ «from» out k at → length (p .s) ≤ at → (longIn p rs ≡ missing) × Put out₀ «from» (linesIn p rs) out k
+  unfolding longLine listedText
+  finished g h =
+      let q = none-left (g .stand) h in
+      (g .long ∙ ap (longIn p) q, left-none (g .writing) (ap (linesIn p) q))
+
+-- positions do not fall
+pub put-rises : {out out′ t : List ℕ} {a c : ℕ} → Put out a t out′ c → a ≤ top → a ≤ c
+put-rises w h = omega (arith, w .next)
+
+-- the printing that the function is given part by part
+abbrev pub printing : Bool → Bool → Bool → List ℕ → List (List ℕ) → List (List ℕ) → ℕ → List ℕ → List ℕ → List ℕ → List ℕ → List ℕ → Printing
+printing offsets labels texts source types ops last bytes ends s flags indent = record {
+  o = optionsOf offsets labels texts;
+  e = contextFrom source types ops bytes ends;
+  labels = labelOffsets (contextFrom source types ops bytes ends) (recordsOf (decodeBody types last s));
+  flags = flags;
+  indent = indent;
+  types = types;
+  last = last;
+  s = s;
+}
+
+pub given : (p : Printing) {«from» : ℕ} → Flagged (p .flags) (p .labels)
+    → (length (p .s) ≤ length (p .flags)) × (length (p .s) ≤ 65536) × (length (p .indent) ≤ 2) × («from» ≤ 2097152) → Given p «from»
+given p m h = record { marked = m; flags-room = h .0; body-size = h .1; indent-size = h .2; from-small = h .3 }
+
+pub fits-next : (at size n : ℕ) → at + size ≤ n → n ≤ 65536 → at + size < 2 ^ 64
+fits-next at size n h k = omega arith
+
+pub less-next : (at size n : ℕ) → at < n → 1 ≤ size → n - (at + size) < n - at
+less-next at size n h k = omega arith

@@ -1,0 +1,98 @@
+use mathlib.Core.Path.{refl}
+use Prim.Native.Nat.{_-_}
+use native.Mathlib.Omega.{arith}
+use lib.ListN.{length}
+use Rattle.lists.proofs.Writes.{_then_}
+use Rattle.spec_body.specs.Decode.{decodeBody}
+use Rattle.listing.specs.Parts.{recordsOf}
+use Rattle.listing.specs.Parts.Lined.{all, over}
+use Rattle.listing.proofs.LinesLoop.{Going, printing, given, records-are, start, inside, stopped, turn, finished, put-rises, fits-next, less-next}
+use borrow.Author.Needs.{needs}
+use Rattle.listing.proofs.body_lines.list_lines.Statement.{statement}
+use Rattle.listing.proofs.body_lines.list_lines.Tie as tie
+
+abbrev Inv-loop : tie.InvT-loop
+Inv-loop offsets labels texts sheet types ops last bytes ends s flags indent out₀ «from» k₀ at₀ out k at =
+    Going (printing offsets labels texts sheet types ops last bytes ends s flags indent) (recordsOf (decodeBody types last s)) out₀ «from» out k at
+
+abbrev μ-loop : tie.MeasureT-loop
+μ-loop offsets labels texts sheet types ops last bytes ends s flags indent out₀ «from» k₀ at₀ out k at = length s - at
+
+loop-holds : tie.Need-loop-holds Inv-loop μ-loop
+loop-holds c = start (records-are _ _ _ (c .before .before .before .before .before .before .before .pre .0)) (omega arith) (omega arith)
+
+shared-slice-read-op : tie.Need-shared-slice-read-op Inv-loop μ-loop
+shared-slice-read-op c = search needs
+
+cast-op : tie.Need-cast-op Inv-loop μ-loop
+cast-op c = omega (arith, c .shared-slice-known7 .given (c .before .before .loop .at))
+
+mul-row : tie.Need-mul-row Inv-loop μ-loop
+mul-row c = omega (arith, c .shared-slice-known7 .given (c .before .before .loop .at))
+
+element-copy-out-row : tie.Need-element-copy-out-row Inv-loop μ-loop
+element-copy-out-row c = c .shared-slice-known7 .given (c .before .before .loop .at) .fits
+
+instruction-length-requires : tie.Need-instruction-length-requires Inv-loop μ-loop
+instruction-length-requires c κs = search needs
+
+put-flagged-label-requires : tie.Need-put-flagged-label-requires Inv-loop μ-loop
+put-flagged-label-requires c κs = omega (arith, c .before .before .before .before .before .before .before .before .before .before .before .before .before .pre .1 .1 .0, c .before .before .before .before .loop-test .taken)
+
+put-bytes-requires : tie.Need-put-bytes-requires Inv-loop μ-loop
+put-bytes-requires c κs = search needs
+
+put-instruction-requires : tie.Need-put-instruction-requires Inv-loop μ-loop
+put-instruction-requires c κs = (inside (c .before .before .before .before .before .before .before .before .before .before .before .before .before .loop .inv) (c .before .before .before .before .before .before .before .before .before .before .before .before .loop-test .taken), c .before .before .before .before .before .before .before .before .before .before .before .before .before .before .before .before .before .before .before .before .before .pre .1 .1 .1)
+
+sub-if1 : tie.Need-sub-if1 Inv-loop μ-loop
+sub-if1 c = put-rises (c .before .before .before .before .before .before .put-bytes .ensures then c .before .before .put-instruction .ensures) (omega arith)
+
+same-length : tie.Need-same-length Inv-loop μ-loop
+same-length c = search needs
+
+returns : tie.Need-returns Inv-loop μ-loop
+returns c = over _ (stopped (given _ (c .before .before .before .before .before .before .before .before .before .before .before .before .before .before .before .before .before .before .before .before .before .before .before .before .before .pre .1 .0) (c .before .before .before .before .before .before .before .before .before .before .before .before .before .before .before .before .before .before .before .before .before .before .before .before .before .pre .1 .1)) (c .before .before .before .before .before .before .before .before .before .before .before .before .before .before .before .before .before .loop .inv) (c .before .before .before .before .before .before .before .before .before .before .before .before .before .before .before .before .loop-test .taken) (record { o₁ = _; label-put = c .before .before .before .before .before .before .before .before .before .before .before .put-flagged-label .ensures; o₂ = _; b = _; indent-put = c .before .before .before .before .before .before .before .put-bytes .ensures; text-put = c .before .before .before .put-instruction .ensures }) (c .if1 .taken)) refl
+
+put-byte-requires : tie.Need-put-byte-requires Inv-loop μ-loop
+put-byte-requires c κs = search needs
+
+add-at : tie.Need-add-at Inv-loop μ-loop
+add-at c = record { fits = fits-next _ _ _ (rw (c .before .before .before .before .before .before .before .before .before .before .before .before .before .before .before .before .before .instruction-length .ensures .0) (inside (c .before .before .before .before .before .before .before .before .before .before .before .before .before .before .before .before .before .before .before .before .before .loop .inv) (c .before .before .before .before .before .before .before .before .before .before .before .before .before .before .before .before .before .before .before .before .loop-test .taken))) (c .before .before .before .before .before .before .before .before .before .before .before .before .before .before .before .before .before .before .before .before .before .before .before .before .before .before .before .before .before .pre .1 .1 .1) }
+
+loop-less : tie.Need-loop-less Inv-loop μ-loop
+loop-less c = less-next _ _ _ (c .before .before .before .before .before .before .before .before .before .before .before .before .before .before .before .before .before .before .before .before .loop-test .taken) (rw (c .before .before .before .before .before .before .before .before .before .before .before .before .before .before .before .before .before .instruction-length .ensures .0) (omega arith))
+
+loop-again : tie.Need-loop-again Inv-loop μ-loop
+loop-again c = turn (given _ (c .before .before .before .before .before .before .before .before .before .before .before .before .before .before .before .before .before .before .before .before .before .before .before .before .before .before .before .before .before .pre .1 .0) (c .before .before .before .before .before .before .before .before .before .before .before .before .before .before .before .before .before .before .before .before .before .before .before .before .before .before .before .before .before .pre .1 .1)) (c .before .before .before .before .before .before .before .before .before .before .before .before .before .before .before .before .before .before .before .before .before .loop .inv) (c .before .before .before .before .before .before .before .before .before .before .before .before .before .before .before .before .before .before .before .before .loop-test .taken) (record { o₁ = _; label-put = c .before .before .before .before .before .before .before .before .before .before .before .before .before .before .before .put-flagged-label .ensures; o₂ = _; b = _; indent-put = c .before .before .before .before .before .before .before .before .before .before .before .put-bytes .ensures; text-put = c .before .before .before .before .before .before .before .put-instruction .ensures }) (c .before .before .before .before .if1 .left) (c .before .before .put-byte .ensures) (c .before .before .before .before .before .before .before .before .before .before .before .before .before .before .before .before .before .instruction-length .ensures .0)
+
+same-length-2 : tie.Need-same-length-2 Inv-loop μ-loop
+same-length-2 c = search needs
+
+returns-2 : tie.Need-returns-2 Inv-loop μ-loop
+returns-2 c = let f = finished (c .before .loop .inv) (c .loop-test .left) in all _ (f .0) refl (f .1)
+
+pub list-lines-spec : {M : Type 1} → statement M
+list-lines-spec =
+    tie.close
+    (tie.spec
+    Inv-loop
+    μ-loop
+    loop-holds
+    shared-slice-read-op
+    cast-op
+    mul-row
+    element-copy-out-row
+    instruction-length-requires
+    put-flagged-label-requires
+    put-bytes-requires
+    put-instruction-requires
+    sub-if1
+    same-length
+    returns
+    put-byte-requires
+    add-at
+    loop-less
+    loop-again
+    same-length-2
+    returns-2)

@@ -1,0 +1,103 @@
+// All lines of a body that decodes.
+ghost use Prim.Native.Nat.{_*_, _<_, _≤_};
+ghost use lib.ListN.{length};
+ghost use Rattle.limits.specs.Limits.{bodyLimit, listingLimit};
+ghost use Rattle.lists.specs.Write.{Put};
+ghost use Rattle.spec_body.specs.Decode.{decodeBody};
+ghost use Rattle.spec_listing.specs.Labels.{labelOffsets};
+ghost use Rattle.spec_listing.specs.Listing.{labelLine, longLine, listedText};
+ghost use Rattle.listing.specs.Parts.{Decodes, Flagged, recordsOf, Lined, flaggedText, optionsOf};
+ghost use Rattle.spec_inputs.specs.Context.{contextFrom};
+use numbers::print_decimal::put_decimal;
+use slices::write::put_byte;
+use slices::write::put_bytes;
+
+// The next position behind the lines, or the instruction whose line is too long.
+pub enum Lines {
+    To(usize),
+    Long(usize),
+}
+
+fn put_label(out: &mut [u8], k: usize, indent: &[u8], at: usize) -> usize
+    ensures { λ r. ⌜ Put (now (out .entry)) k (labelLine (now (indent .entry)) at) (now (out .exit)) r ⌝ }
+{
+    let a = put_bytes(out, k, indent);
+    let b = put_bytes(out, a, b"L");
+    let c = put_decimal(out, b, at as u64);
+    put_bytes(out, c, b":\n")
+}
+
+// The label's line, where labels are shown and its flag is set.
+fn put_flagged_label(
+    out: &mut [u8],
+    k: usize,
+    labels: bool,
+    flags: &[u8],
+    indent: &[u8],
+    at: usize,
+) -> usize
+    requires { ⌜ at < length (now flags) ⌝ }
+    ensures { λ r. ⌜ Put (now (out .entry)) k (flaggedText labels (now (flags .entry)) (now (indent .entry)) at) (now (out .exit)) r ⌝ }
+{
+    if labels {
+        if flags[at] == 1 {
+            return put_label(out, k, indent, at);
+        }
+    }
+    k
+}
+
+// Writes all lines. The caller keeps `from` small, so that a line's length is known from the two positions around it.
+pub fn list_lines(
+    offsets: bool,
+    labels: bool,
+    texts: bool,
+    sheet: &[u8],
+    types: &[[u8; 8]; 256],
+    ops: &[[usize; 4]; 256],
+    last: usize,
+    bytes: &[u8],
+    ends: &[u32],
+    s: &[u8],
+    flags: &[u8],
+    indent: &[u8],
+    out: &mut [u8],
+    from: usize,
+) -> Lines
+    requires { ⌜ Decodes (now types) last (now s) ⌝ }
+    requires { ⌜ Flagged (now flags) (labelOffsets (contextFrom (now sheet) (now types) (now ops) (now bytes) (now ends)) (recordsOf (decodeBody (now types) last (now s)))) ⌝ }
+    requires { ⌜ (length (now s) ≤ length (now flags)) × (length (now s) ≤ bodyLimit) × (length (now indent) ≤ 2) × («from» ≤ 2 * listingLimit) ⌝ }
+    ensures { λ r. ⌜ Lined
+        (listedText (optionsOf offsets labels texts) (contextFrom (now (sheet .entry)) (now (types .entry)) (now (ops .entry)) (now (bytes .entry)) (now (ends .entry))) (labelOffsets (contextFrom (now (sheet .entry)) (now (types .entry)) (now (ops .entry)) (now (bytes .entry)) (now (ends .entry))) (recordsOf (decodeBody (now (types .entry)) last (now (s .entry))))) (now (indent .entry)) (recordsOf (decodeBody (now (types .entry)) last (now (s .entry)))))
+        (longLine (optionsOf offsets labels texts) (contextFrom (now (sheet .entry)) (now (types .entry)) (now (ops .entry)) (now (bytes .entry)) (now (ends .entry))) (now (indent .entry)) (recordsOf (decodeBody (now (types .entry)) last (now (s .entry)))))
+        (now (out .entry)) «from» (now (out .exit)) r ⌝ }
+{
+    let mut k = from;
+    let mut at: usize = 0;
+    while at < s.len() {
+        let op = s[at] as usize;
+        let row = types[op];
+        let size = decode::record::instruction_length(row);
+        let a = put_flagged_label(out, k, labels, flags, indent, at);
+        let b = put_bytes(out, a, indent);
+        let c = crate::instruction::put_instruction(
+            out,
+            b,
+            offsets,
+            texts,
+            sheet,
+            types,
+            ops,
+            bytes,
+            ends,
+            s,
+            at,
+        );
+        if limits::LINE_LIMIT < c - a {
+            return Lines::Long(at);
+        }
+        k = put_byte(out, c, 10);
+        at += size;
+    }
+    Lines::To(k)
+}

@@ -1,0 +1,61 @@
+// One instruction as it is listed: format_instruction of disasm.rs.
+ghost use Prim.Native.Nat.{_+_, _≤_};
+ghost use lib.Dec.{eqb};
+ghost use lib.ListN.{length};
+ghost use Rattle.limits.specs.Limits.{bodyLimit};
+ghost use Rattle.lists.specs.Choice.{pick};
+ghost use Rattle.lists.specs.Scan.{part};
+ghost use Rattle.lists.specs.Text.{text};
+ghost use Rattle.lists.specs.Write.{Put};
+ghost use Rattle.spec_body.specs.Record.{lengthOf, recordOf};
+ghost use Rattle.spec_body.specs.Decode.{rowAt};
+ghost use Rattle.spec_listing.specs.Line.{offsetText, instructionText};
+use crate::operand_text::put_operands;
+use slices::write::put_bytes;
+
+// Writes an offset and two spaces, where offsets are shown.
+fn put_offset(out: &mut [u8], k: usize, offsets: bool, at: usize) -> usize
+    ensures { λ r. ⌜ Put (now (out .entry)) k (offsetText offsets at) (now (out .exit)) r ⌝ }
+{
+    if offsets {
+        let a = numbers::print_hex::put_hex_lower4(out, k, at as u64);
+        return put_bytes(out, a, b"  ");
+    }
+    k
+}
+
+// Writes a name, which is a part of the sheet's text. A gap has none, which its length 0 says.
+fn put_name(out: &mut [u8], k: usize, sheet: &[u8], start: usize, size: usize) -> usize
+    ensures { λ r. ⌜ Put (now (out .entry)) k (pick (eqb size 0) (text "<invalid>") (part (now (sheet .entry)) start size)) (now (out .exit)) r ⌝ }
+{
+    if size == 0 {
+        return put_bytes(out, k, b"<invalid>");
+    }
+    let name = slices::part::part_of(sheet, start, size);
+    put_bytes(out, k, name)
+}
+
+// Writes the instruction at `at` of the body s, under a sheet's text and tables and a string table.
+pub fn put_instruction(
+    out: &mut [u8],
+    k: usize,
+    offsets: bool,
+    texts: bool,
+    sheet: &[u8],
+    types: &[[u8; 8]; 256],
+    ops: &[[usize; 4]; 256],
+    bytes: &[u8],
+    ends: &[u32],
+    s: &[u8],
+    at: usize,
+) -> usize
+    requires { ⌜ (at + lengthOf (rowAt (now types) (now s) at) ≤ length (now s)) × (length (now s) ≤ bodyLimit) ⌝ }
+    ensures { λ r. ⌜ Put (now (out .entry)) k (instructionText offsets texts (record { sheet = now (sheet .entry); types = now (types .entry); infos = now (ops .entry); bytes = now (bytes .entry); ends = now (ends .entry) }) (recordOf (rowAt (now (types .entry)) (now (s .entry)) at) (now (s .entry)) at)) (now (out .exit)) r ⌝ }
+{
+    let op = s[at] as usize;
+    let info = ops[op];
+    let row = types[op];
+    let a = put_offset(out, k, offsets, at);
+    let b = put_name(out, a, sheet, info[2], info[3]);
+    put_operands(out, b, texts, bytes, ends, row, s, at)
+}

@@ -1,0 +1,108 @@
+// Listing a body.
+ghost use mathlib.Core.Path.{_≡_};
+ghost use mathlib.Core.List.{[]};
+ghost use Prim.Native.Nat.{_≤_};
+ghost use lib.ListN.{length, replicate};
+ghost use Rattle.limits.specs.Limits.{bodyLimit};
+ghost use Rattle.spec_body.specs.Decode.{decodeBody};
+ghost use Rattle.spec_listing.specs.Listing.{listDecoded};
+ghost use Rattle.spec_listing.specs.Operation as operation;
+ghost use Rattle.spec_listing.specs.Operation.{listOutcome};
+ghost use Rattle.listing.specs.Parts.{optionsOf};
+ghost use Rattle.spec_inputs.specs.Context.{contextFrom};
+ghost use Rattle.listing.specs.Answers.{listReport, Ended};
+use crate::answer::ListAnswer;
+ghost use Rattle.operation.specs.Read.{inputsReport};
+use operation::inputs::Inputs;
+use slices::write::clear;
+
+// Lists a body under the tables of a sheet, whose names are parts of `sheet`.
+pub fn list_under(
+    offsets: bool,
+    labels: bool,
+    texts: bool,
+    sheet: &[u8],
+    types: &[[u8; 8]; 256],
+    ops: &[[usize; 4]; 256],
+    last: usize,
+    bytes: &[u8],
+    ends: &[u32],
+    s: &[u8],
+    lent: usize,
+    out: &mut [u8],
+) -> ListAnswer
+    requires { ⌜ length (now s) ≤ bodyLimit ⌝ }
+    ensures { λ r. ⌜ Ended (listOutcome lent (listDecoded (optionsOf offsets labels texts) (contextFrom (now (sheet .entry)) (now (types .entry)) (now (ops .entry)) (now (bytes .entry)) (now (ends .entry))) [] (decodeBody (now (types .entry)) last (now (s .entry))))) (now (out .entry)) (now (out .exit)) r ⌝ }
+{
+    let p = crate::body::list_body(
+        offsets,
+        labels,
+        texts,
+        sheet,
+        types,
+        ops,
+        last,
+        bytes,
+        ends,
+        s,
+        b"",
+        out,
+        0,
+    );
+    crate::answer::finish(p, lent, out)
+}
+
+// What inputs that are refused answer.
+pub fn refused_inputs(i: Inputs) -> ListAnswer
+    ensures { λ r. ⌜ listReport r ≡ inputsReport i ⌝ }
+{
+    match i {
+        Inputs::Ready(_) => ListAnswer::Done(0),
+        Inputs::TooLarge => ListAnswer::TooLarge,
+        Inputs::Fault(id) => ListAnswer::Fault(id),
+        Inputs::Malformed(line) => ListAnswer::Malformed(line),
+    }
+}
+
+// Lists a body under a sheet given as text and a string table.
+pub fn list(
+    offsets: bool,
+    labels: bool,
+    texts: bool,
+    sheet: &[u8],
+    bytes: &[u8],
+    ends: &[u32],
+    body: &[u8],
+    out: &mut [u8],
+    entries: &mut [u32],
+) -> ListAnswer
+    ensures { λ r. ⌜ Ended (operation.list (optionsOf offsets labels texts) (now (sheet .entry)) (now (bytes .entry)) (now (ends .entry)) (now (body .entry)) (length (now (entries .entry)))) (now (out .entry)) (now (out .exit)) r ⌝ }
+    ensures { λ _. ⌜ now (entries .exit) ≡ replicate (length (now (entries .entry))) 0 ⌝ }
+{
+    slices::clearing::clear_entries(entries);
+    if limits::BODY_LIMIT < body.len() {
+        clear(out);
+        return ListAnswer::TooLarge;
+    }
+    let mut types = [[0u8; 8]; 256];
+    let mut ops = [[0usize; 4]; 256];
+    let i = operation::inputs::read_inputs(sheet, bytes, ends, &mut types, &mut ops);
+    let Inputs::Ready(last) = i else {
+        clear(out);
+        return refused_inputs(i);
+    };
+    list_under(
+        offsets,
+        labels,
+        texts,
+        sheet,
+        &types,
+        &ops,
+        last,
+        bytes,
+        ends,
+        body,
+        entries.len(),
+        out,
+    )
+}

@@ -1,2 +1,0 @@
-pub mod ModuleLoop
-pub mod ModuleEnd

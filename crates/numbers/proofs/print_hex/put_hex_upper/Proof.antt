@@ -1,0 +1,19 @@
+use borrow.Author.Needs.{needs}
+use Rattle.lists.proofs.Writes.{same-piece}
+use Rattle.spec_numbers.specs.Print.{hexUpper}
+use Rattle.spec_numbers.proofs.PrintLaws.{unpadded}
+use Rattle.numbers.proofs.print_hex.put_hex_upper.Statement.{statement}
+use Rattle.numbers.proofs.print_hex.put_hex_upper.Tie as tie
+
+put-hex-requires : tie.Need-put-hex-requires
+put-hex-requires c κs = search needs
+
+same-length : tie.Need-same-length
+same-length c = search needs
+
+returns : tie.Need-returns
+unfolding hexUpper
+returns c = same-piece (unpadded _) (c .before .before .put-hex .ensures)
+
+pub put-hex-upper-spec : {M : Type 1} → statement M
+put-hex-upper-spec = tie.close (tie.spec put-hex-requires same-length returns)

@@ -1,0 +1,17 @@
+use borrow.Author.Needs.{needs}
+use Rattle.spec_numbers.specs.Print.{hexUpper, hexUpper16}
+use Rattle.numbers.proofs.print_hex.put_hex_upper16.Statement.{statement}
+use Rattle.numbers.proofs.print_hex.put_hex_upper16.Tie as tie
+
+put-hex-requires : tie.Need-put-hex-requires
+put-hex-requires c κs = search needs
+
+same-length : tie.Need-same-length
+same-length c = search needs
+
+returns : tie.Need-returns
+unfolding hexUpper16 hexUpper
+returns c = c .before .before .put-hex .ensures
+
+pub put-hex-upper16-spec : {M : Type 1} → statement M
+put-hex-upper16-spec = tie.close (tie.spec put-hex-requires same-length returns)

@@ -1,0 +1,37 @@
+-- What reading an operation's inputs answers and leaves. Assumes nothing.
+use mathlib.Core.Path.{_≡_}
+use mathlib.Core.List.{List}
+use Prim.Native.Nat.{ℕ, _≤_}
+use Rattle.spec_answers.specs.Report.{Report, refusal, success}
+use Rattle.spec_sheet.specs.Line.{Op}
+use Rattle.spec_sheet.specs.Sheet.{sheetOf, typeRows, infoRows, largest}
+use Rattle.spec_answers.specs.Outcome.{Outcome}
+use Rattle.spec_answers.specs.Outcome.Outcome.{refusedWith}
+use Rattle.spec_inputs.specs.Context.{Context}
+use Rattle.spec_inputs.specs.Inputs.{underContext, underInputs, contextOf}
+use Rattle.operation.specs.declared.inputs.Inputs.{Inputs}
+use Rattle.operation.specs.declared.inputs.Inputs.the-variants.{Ready, TooLarge, Fault, Malformed}
+
+-- document 01's number, place and operand of inputs that are refused
+unfoldable pub inputsReport : Inputs → Report
+inputsReport (Ready last) = success 0
+inputsReport TooLarge = refusal 18 0 0
+inputsReport (Fault id) = refusal 17 id 0
+inputsReport (Malformed line) = refusal 1 line 0
+
+-- an outcome under inputs: they were read, so that it goes on under the tables and the largest opcode; or they are refused,
+-- whatever follows
+pub data Under (text bytes ends : List ℕ) (outcome : (Context → ℕ → Outcome) → Outcome) (types ops : List (List ℕ)) (r : Inputs) : Type 0 where
+  ready : (os : List Op) → types ≡ typeRows os → ops ≡ infoRows os → largest os ≤ 255
+      → ((then : Context → ℕ → Outcome) → outcome then ≡ then (contextOf text os bytes ends) (largest os))
+      → r ≡ Ready (largest os) → Under text bytes ends outcome types ops r
+  refused : (n p : ℕ) → 1 ≤ n → ((then : Context → ℕ → Outcome) → outcome then ≡ refusedWith n p 0) → inputsReport r ≡ refusal n p 0
+      → Under text bytes ends outcome types ops r
+
+-- a sheet alone, for any string table
+abbrev pub SheetGiven : List ℕ → List (List ℕ) → List (List ℕ) → Inputs → Type 0
+SheetGiven text types ops r = (bytes ends : List ℕ) → Under text bytes ends (underContext (sheetOf text) text bytes ends) types ops r
+
+-- a string table and a sheet
+abbrev pub Given : List ℕ → List ℕ → List ℕ → List (List ℕ) → List (List ℕ) → Inputs → Type 0
+Given text bytes ends types ops r = Under text bytes ends (underInputs text bytes ends) types ops r

@@ -1,0 +1,56 @@
+// The inputs that an operation takes beside its body or text: a string table and a sheet, with their refusals in order.
+ghost use mathlib.Core.Path.{_≡_};
+ghost use Rattle.operation.specs.Read.{SheetGiven, Given};
+ghost use Rattle.operation.specs.Tables.{tableInputs};
+use sheet::opcode::Sheet;
+use slices::search::Found;
+
+// The largest opcode of a sheet that was read; or 18, the entry of 17, or the line of 1.
+pub enum Inputs {
+    Ready(usize),
+    TooLarge,
+    Fault(usize),
+    Malformed(usize),
+}
+
+// Reads the sheet into its tables.
+fn read_tables(sheet: &[u8], types: &mut [[u8; 8]; 256], ops: &mut [[usize; 4]; 256]) -> Inputs
+    ensures { λ r. ⌜ SheetGiven (now (sheet .entry)) (now (types .exit)) (now (ops .exit)) r ⌝ }
+{
+    let s = sheet::opcode::read_sheet(sheet, types, ops);
+    match s {
+        Sheet::Read(_, _, above, _) => Inputs::Ready(above - 1),
+        Sheet::Malformed(line) => Inputs::Malformed(line),
+    }
+}
+
+// Looks at a string table under a sheet with this largest opcode: 18, then 17 by entry.
+pub fn table_inputs(last: usize, bytes: &[u8], ends: &[u32]) -> Inputs
+    ensures { λ r. ⌜ r ≡ tableInputs last (now (bytes .entry)) (now (ends .entry)) ⌝ }
+{
+    if strings::table::too_large(bytes, ends) {
+        return Inputs::TooLarge;
+    }
+    let f = strings::table::find_fault(bytes, ends);
+    match f {
+        Found::At(id) => Inputs::Fault(id),
+        Found::Missing => Inputs::Ready(last),
+    }
+}
+
+// Looks at the string table, then reads the sheet into its tables.
+pub fn read_inputs(
+    sheet: &[u8],
+    bytes: &[u8],
+    ends: &[u32],
+    types: &mut [[u8; 8]; 256],
+    ops: &mut [[usize; 4]; 256],
+) -> Inputs
+    ensures { λ r. ⌜ Given (now (sheet .entry)) (now (bytes .entry)) (now (ends .entry)) (now (types .exit)) (now (ops .exit)) r ⌝ }
+{
+    let i = table_inputs(0, bytes, ends);
+    let Inputs::Ready(_) = i else {
+        return i;
+    };
+    read_tables(sheet, types, ops)
+}

@@ -1,5 +1,0 @@
-pub mod ShapeLaws
-pub mod PlainLaws
-pub mod AheadLaws
-pub mod PlainWrites
-pub mod PlainRecords

@@ -1,4 +1,0 @@
-pub mod RowLaws
-pub mod PairLaws
-pub mod OperandLoop
-pub mod TableLaws

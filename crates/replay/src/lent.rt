@@ -1,0 +1,66 @@
+// The space lent to a call: how it is before the call, and whether it is afterwards as recorded.
+use numbers::io::put_le;
+use numbers::io::read_le;
+use slices::compare::same_bytes;
+
+// The byte that lent space holds before a call.
+pub const FILL: u8 = 0xA5;
+
+pub fn fill(s: &mut [u8], b: u8) {
+    let mut i: usize = 0;
+    while i < s.len() {
+        s[i] = b;
+        i += 1;
+    }
+}
+
+// Whether every byte is b.
+fn all_are(s: &[u8], b: u8) -> bool {
+    let mut i: usize = 0;
+    while i < s.len() {
+        if s[i] != b {
+            return false;
+        }
+        i += 1;
+    }
+    true
+}
+
+// Whether a call that answered `number` left the lent bytes as expected.
+pub fn is_left(lent: &[u8], expected: &[u8], number: u64) -> bool {
+    let n = expected.len();
+    if lent.len() < n {
+        return false;
+    }
+    if !same_bytes(&lent[0..n], expected) {
+        return false;
+    }
+    if number == 0 {
+        return all_are(&lent[n..], FILL);
+    }
+    all_are(lent, 0)
+}
+
+// Sets the words to those whose little-endian bytes s holds, as far as both go.
+pub fn words_of(s: &[u8], words: &mut [u64]) {
+    let mut at: usize = 0;
+    let mut i: usize = 0;
+    while i < words.len() {
+        if s.len() - at < 8 {
+            return;
+        }
+        words[i] = read_le(s, at, 8);
+        at += 8;
+        i += 1;
+    }
+}
+
+// Writes the words' little-endian bytes to the front of out, as far as they fit.
+pub fn bytes_of(words: &[u64], out: &mut [u8]) {
+    let mut at: usize = 0;
+    let mut i: usize = 0;
+    while i < words.len() {
+        at = put_le(out, at, 8, words[i]);
+        i += 1;
+    }
+}

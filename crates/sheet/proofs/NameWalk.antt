@@ -1,0 +1,48 @@
+-- Laws of a search for a name along its chain. Assumes nothing.
+use mathlib.Core.Path.{_≡_, sym, ap, _∙_}
+use mathlib.Core.Bool.{true, false}
+use mathlib.Core.List.{List, []}
+use Prim.Native.Nat.{ℕ, _+_, _≤_, _<_}
+use lib.Dec.{ltb}
+use lib.ListN.{length, getD}
+use Rattle.lists.specs.Scan.{same, part}
+use Rattle.lists.proofs.Tests.{by-test, both-right}
+use Rattle.lists.proofs.Scans.{same-eq}
+use Rattle.slices.specs.Answers.{foundOf}
+use Rattle.slices.specs.declared.search.Found.the-variants.{At, Missing}
+use Rattle.spec_sheet.specs.Sheet.{hasName, findName}
+use Rattle.spec_sheet.proofs.NameLaws.{find-end, find-here, find-next}
+use Rattle.hash_index.specs.Chain.{Walk}
+use Rattle.hash_index.proofs.ChainLaws.{walk-start, walk-next}
+use Rattle.sheet.specs.Keys.{bucketOf, bucketAt, NamesIndexed, nameFrom}
+
+-- an opcode that has a name is in the name's bucket
+in-bucket : (s name : List ℕ) (rows : List (List ℕ)) (k : ℕ) → hasName s name (getD rows k []) ≡ true → bucketAt s rows k ≡ bucketOf name
+unfolding hasName bucketAt
+in-bucket s name rows k e =
+    let row = getD rows k [] in
+    let own = part s (getD row 2 0) (getD row 3 0) in
+    ap bucketOf (same-eq own name (both-right (ltb 0 (getD row 3 0)) (same own name) e))
+
+module _ (s name : List ℕ) (rows : List (List ℕ)) (h : ℕ) (e : h ≡ bucketOf name) where
+  -- so one in another bucket is passed over
+  passed : (i : ℕ) → i < 256 → (bucketAt s rows i ≡ h → ⊥) → nameFrom s name rows i ≡ nameFrom s name rows (i + 1)
+  passed i l z =
+      find-next s name rows i
+      (by-test (hasName s name (getD rows i [])) (λ t. absurd (z (in-bucket s name rows i t ∙ sym e))) (λ t. t))
+
+  module _ (heads nexts : List ℕ) (c : NamesIndexed s rows heads nexts) (b : h < 1024) where
+    pub name-start : Walk (bucketAt s rows) 256 h (nameFrom s name rows) (getD heads h 0)
+    name-start = walk-start (bucketAt s rows) 1024 256 h heads nexts (nameFrom s name rows) c b passed
+
+    -- behind an opcode with another name
+    pub name-next : (k : ℕ) → Walk (bucketAt s rows) 256 h (nameFrom s name rows) k → k < 256 → hasName s name (getD rows k []) ≡ false → Walk (bucketAt s rows) 256 h (nameFrom s name rows) (getD nexts k 0)
+    name-next k w l t = walk-next (bucketAt s rows) 1024 256 h heads nexts (nameFrom s name rows) c b passed k w l (find-next s name rows k t)
+
+-- the opcode that has the name, and the end of the chain
+module _ (s name : List ℕ) (rows : List (List ℕ)) (h k : ℕ) (w : Walk (bucketAt s rows) 256 h (nameFrom s name rows) k) where
+  pub name-found : hasName s name (getD rows k []) ≡ true → At k ≡ foundOf (findName s name 0 rows)
+  name-found t = sym (ap foundOf (w .same-answer ∙ find-here s name rows k t))
+
+  pub name-missing : length rows ≤ k → Missing ≡ foundOf (findName s name 0 rows)
+  name-missing l = sym (ap foundOf (w .same-answer ∙ find-end s name rows k l))

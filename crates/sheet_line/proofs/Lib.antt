@@ -1,4 +1,0 @@
-pub mod AnswerLaws
-pub mod KeyedLaws
-pub mod TypesLoop
-pub mod LineLaws

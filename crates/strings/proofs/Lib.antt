@@ -1,0 +1,5 @@
+pub mod Entries
+pub mod EscapeTurns
+pub mod BareLaws
+pub mod UnescapeTurns
+pub mod TextWalk

@@ -1,0 +1,78 @@
+// The index is two lent slices: heads, one for each bucket, and a next for each id. It answers what `lookup` of the table
+// answers, however many heads are lent.
+ghost use mathlib.Core.Path.{_≡_};
+ghost use Prim.Native.Nat.{_≤_, _<_};
+ghost use lib.ListN.{length};
+ghost use Rattle.limits.specs.Limits.{stringLimit};
+ghost use Rattle.slices.specs.Answers.{foundOf};
+ghost use Rattle.spec_strings.specs.Table.{textOf, lookup, entryStart};
+ghost use Rattle.strings.specs.Keys.{bucketOf, TextsIndexed};
+use slices::search::Found;
+
+// Where the text of an id starts.
+fn start_of(ends: &[u32], id: usize) -> usize
+    requires { ⌜ id < length (now ends) ⌝ }
+    ensures { λ r. ⌜ r ≡ entryStart (now (ends .entry)) id ⌝ }
+{
+    if id == 0 {
+        return 0;
+    }
+    hash_index::chain::index_at(ends, id - 1)
+}
+
+// The text of an id.
+fn text_of<'a>(bytes: &'a [u8], ends: &[u32], id: usize) -> &'a [u8]
+    requires { ⌜ id < length (now ends) ⌝ }
+    ensures { λ r. ⌜ now r ≡ textOf (now (bytes .entry)) (now (ends .entry)) id ⌝ }
+{
+    let start = start_of(ends, id);
+    let end = hash_index::chain::index_at(ends, id);
+    crate::table::entry_part(bytes, start, end)
+}
+
+// The bucket of a text among m.
+fn bucket_of(text: &[u8], m: usize) -> usize
+    requires { ⌜ 0 < m ⌝ }
+    ensures { λ r. ⌜ (r ≡ bucketOf m (now (text .entry))) × (r < m) ⌝ }
+{
+    hash_index::hash::hash_of(text) % m
+}
+
+// Puts the texts of all ids into chains, from the last id down, so that the first of equal texts is found.
+pub fn index_texts(bytes: &[u8], ends: &[u32], heads: &mut [u32], nexts: &mut [u32])
+    requires { ⌜ (0 < length (now heads)) × (length (now ends) ≤ stringLimit) × (length (now ends) ≤ length (now nexts)) ⌝ }
+    ensures { λ _. ⌜ TextsIndexed (now (bytes .entry)) (now (ends .entry)) (now (heads .exit)) (now (nexts .exit)) ⌝ }
+{
+    hash_index::chain::empty_all(heads, ends.len());
+    let mut left = ends.len();
+    while 0 < left {
+        let id = left - 1;
+        let text = text_of(bytes, ends, id);
+        let h = bucket_of(text, heads.len());
+        hash_index::chain::insert(heads, nexts, h, id);
+        left -= 1;
+    }
+}
+
+// The first id whose text is equal.
+pub fn lookup_indexed(
+    text: &[u8],
+    bytes: &[u8],
+    ends: &[u32],
+    heads: &[u32],
+    nexts: &[u32],
+) -> Found
+    requires { ⌜ TextsIndexed (now bytes) (now ends) (now heads) (now nexts) ⌝ }
+    ensures { λ r. ⌜ r ≡ foundOf (lookup (now (text .entry)) (now (bytes .entry)) (now (ends .entry))) ⌝ }
+{
+    let h = bucket_of(text, heads.len());
+    let mut id = hash_index::chain::index_at(heads, h);
+    while id < ends.len() {
+        let own = text_of(bytes, ends, id);
+        if slices::compare::same_bytes(own, text) {
+            return Found::At(id);
+        }
+        id = hash_index::chain::index_at(nexts, id);
+    }
+    Found::Missing
+}

@@ -1,0 +1,16 @@
+pub mod LineEnds
+pub mod Trims
+pub mod Comments
+pub mod Splits
+pub mod Statements
+pub mod PremiseLaws
+pub mod Values
+pub mod Instructions
+pub mod ListedLines
+pub mod Counts
+pub mod Codes
+pub mod Entries
+pub mod Circle
+pub mod ListAssemble
+pub mod CircleTrials
+pub mod Starred

@@ -1,2 +1,0 @@
-pub mod TokenLaws
-pub mod BoundLaws

@@ -1,1 +1,0 @@
-// Document 01's starred trials, computed over the definitions. There is no code here: see proofs/.

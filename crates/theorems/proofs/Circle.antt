@@ -33,7 +33,7 @@ use Rattle.spec_hasm.specs.Assemble.{Code, codesFrom, assembleCodes, assembleTe
 use Rattle.spec_hasm.specs.Assemble.Assembled.{assembled}
 use Rattle.spec_hasm.specs.Assemble.Label.{none}
 use Rattle.spec_hasm.specs.Operation.{assembleOutcome, assemble}
-use Rattle.theorems.specs.Premises.{default, placesOf, comesBack}
+use Rattle.theorems.specs.Premises.{default, placesOf, roundTrips}
 use Rattle.theorems.proofs.PremiseLaws.{places-most}
 use Rattle.theorems.proofs.ListedLines.{listedLines, listing-lines, lines-good}
 use Rattle.theorems.proofs.Codes.{Back, codes-back}
@@ -77,12 +77,12 @@ module _ (sheetText : List ℕ) (sh : Sheet) (c : ℕ) (read : sheetOf sheetText
       all-weaken (λ x. leb x (length body)) (λ x. leb x 65536) (λ x h. le-leb x 65536 (omega (arith, leb-true x (length body) h)))
       (placesOf rs (length body)) (places-most (typeRows (sh .opcodes)) (largest (sh .opcodes)) body stands)
 
-  module _ (good : comesBack context body rs ≡ true) where
+  module _ (good : roundTrips context body rs ≡ true) where
     abbrev lines : List (List ℕ)
     lines = listedLines context (labelOffsets context rs) rs
 
     back : Back context body 0 (codesFrom context 1 none lines)
-    unfolding comesBack
+    unfolding roundTrips
     back =
         let g = good-sheet sheetText sh c read in
         codes-back sheetText sh c (whole-sheet sheetText sh c read) bytes ends body b short (largest (sh .opcodes)) (g .small) (g .rows) (placesOf rs (length body)) low (labelOffsets context rs) stands good 1 none
@@ -105,7 +105,7 @@ module _ (sheetText : List ℕ) (sh : Sheet) (c : ℕ) (read : sheetOf sheetText
 
       -- it needs no more label entries than the listing did
       pub entries-most : assembleEntries context t ≤ n
-      unfolding comesBack listing.listEntries
+      unfolding roundTrips listing.listEntries
       entries-most =
           let g = good-sheet sheetText sh c read in
           let places = placesOf rs (length body) in

@@ -19,7 +19,7 @@ use Rattle.spec_body.specs.Decode.{prepend, decodeFrom}
 use Rattle.spec_inputs.specs.Context.{nameOf, isJump}
 use Rattle.spec_listing.specs.Operand.{distanceOf, targetOf, stringText, operandText, operandTexts}
 use Rattle.spec_listing.specs.Labels.{among, endsFlow, targets, labelsOf, labelOffsets, different}
-use Rattle.theorems.specs.Premises.{default, answers, goodString, goodOperand, goodOperands, goodRecord, goodRecords, placesOf, comesBack, decodedBack, sheetBack, bodyComesBack}
+use Rattle.theorems.specs.Premises.{default, answers, goodString, goodOperand, goodOperands, goodRecord, goodRecords, placesOf, roundTrips, decodedBack, sheetBack, bodyRoundTrips}
 use Rattle.spec_numbers.specs.Double.{bitsOfWhole, withSign, wholeDigits, readWhole, readHex16, readDouble, infinityText, hexMark}
 use Rattle.spec_strings.specs.Utf8.{afterLead, afterNext, step, utf8From, leadBits, bitsAfter, charsFrom}
 use Rattle.spec_strings.specs.Escape.{meant, unescape, unicode, escape, escapeAll, escapeText, quoted}
@@ -49,8 +49,8 @@ sheet =
 
 -- a body under that sheet and a string table
 unfoldable comes : List ℕ → List ℕ → List ℕ → Bool
-unfolding sheet run all same opens text le extend8 digitValue digitsValue unsignedValue typeNames typeCodeIn typeCode widthOf familyOf kindOf after literalAt isNameByte numberRead numberAt keyedAt mayBeName nameAt typeAt withType typesFrom typesAt headAt lineTypes lineHead lineAt typeRow infoRow fill hasName findName isMissing mayFollow accepted onLine opsFrom sheetOps sheetAt endsAt sheetOf above lookupFrom plainByte plain sumBy pairs prepend decodeFrom nameOf distanceOf targetOf among answers goodString goodOperand goodOperands goodRecord goodRecords placesOf comesBack decodedBack sheetBack bodyComesBack
-comes bytes ends body = bodyComesBack sheet bytes ends body
+unfolding sheet run all same opens text le extend8 digitValue digitsValue unsignedValue typeNames typeCodeIn typeCode widthOf familyOf kindOf after literalAt isNameByte numberRead numberAt keyedAt mayBeName nameAt typeAt withType typesFrom typesAt headAt lineTypes lineHead lineAt typeRow infoRow fill hasName findName isMissing mayFollow accepted onLine opsFrom sheetOps sheetAt endsAt sheetOf above lookupFrom plainByte plain sumBy pairs prepend decodeFrom nameOf distanceOf targetOf among answers goodString goodOperand goodOperands goodRecord goodRecords placesOf roundTrips decodedBack sheetBack bodyRoundTrips
+comes bytes ends body = bodyRoundTrips sheet bytes ends body
 
 -- the job's strings
 bytes : List ℕ

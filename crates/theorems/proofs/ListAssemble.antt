@@ -26,7 +26,7 @@ use Rattle.spec_listing.specs.Listing.Listed.{listed, refused}
 use Rattle.spec_listing.specs.Operation.{listOutcome, list}
 use Rattle.spec_inputs.specs.Inputs.{unlessFault, underTable, contextOf, underContext, underInputs}
 use Rattle.spec_hasm.specs.Operation.{assemble}
-use Rattle.theorems.specs.Premises.{default, decodedBack, sheetBack, bodyComesBack}
+use Rattle.theorems.specs.Premises.{default, decodedBack, sheetBack, bodyRoundTrips}
 use Rattle.theorems.proofs.Circle.{circle, entries-most}
 
 -- a refusal is no result
@@ -87,9 +87,9 @@ module _ (text bytes ends body t : List ℕ) (n lent : ℕ) (b : Bytes body) (sh
   sheet-back (malformed line) read good e = true-not-false false good refl
 
 -- the default listing of a body that round-trips, assembled with as many label entries, is the body
-pub list-assemble : (text bytes ends body t : List ℕ) (n lent : ℕ) → Bytes body → bodyComesBack text bytes ends body ≡ true → list default text bytes ends body lent ≡ result t n
+pub list-assemble : (text bytes ends body t : List ℕ) (n lent : ℕ) → Bytes body → bodyRoundTrips text bytes ends body ≡ true → list default text bytes ends body lent ≡ result t n
     → assemble text bytes ends t lent ≡ result body (length body)
-unfolding list underInputs underTable bodyComesBack
+unfolding list underInputs underTable bodyRoundTrips
 list-assemble text bytes ends body t n lent b good e =
     passed (ltb bodyLimit (length body)) 18 _ t n e λ short f.
     passed (tooLarge bytes ends) 18 _ t n f λ large g.

@@ -62,12 +62,12 @@ placesOf [] end = end ∷ []
 placesOf (r ∷ rs) end = offsetOf r ∷ placesOf rs end
 
 -- a body with these records round-trips
-unfoldable pub comesBack : Context → List ℕ → List (List ℕ) → Bool
-comesBack e body rs = goodRecords e (placesOf rs (length body)) rs
+unfoldable pub roundTrips : Context → List ℕ → List (List ℕ) → Bool
+roundTrips e body rs = goodRecords e (placesOf rs (length body)) rs
 
 -- the same of a body as it is given, under a sheet's text and a string table: one that is refused does not round-trip
 unfoldable pub decodedBack : Context → List ℕ → Decoded → Bool
-decodedBack e body (decoded rs) = comesBack e body rs
+decodedBack e body (decoded rs) = roundTrips e body rs
 decodedBack e body (beyond at) = false
 decodedBack e body (cut at) = false
 
@@ -76,5 +76,5 @@ sheetBack (sheet sh at) text bytes ends body =
     decodedBack (contextOf text (sh .opcodes) bytes ends) body (decodeBody (typeRows (sh .opcodes)) (largest (sh .opcodes)) body)
 sheetBack (malformed line) text bytes ends body = false
 
-unfoldable pub bodyComesBack : List ℕ → List ℕ → List ℕ → List ℕ → Bool
-bodyComesBack text bytes ends body = sheetBack (sheetOf text) text bytes ends body
+unfoldable pub bodyRoundTrips : List ℕ → List ℕ → List ℕ → List ℕ → Bool
+bodyRoundTrips text bytes ends body = sheetBack (sheetOf text) text bytes ends body

@@ -7,7 +7,6 @@ use native.Mathlib.Omega.{arith}
 use lib.Dec.{eqb, leb}
 use lib.ListN.{length, take, drop, getD}
 use borrow.Author.Tests.{eq-eqb, ne-eqb, le-leb, lt-leb}
-use Rattle.lists.specs.Choice.{either}
 use Rattle.lists.specs.Found.{Found}
 use Rattle.lists.specs.Found.Found.{missing}
 use Rattle.lists.proofs.Parts.{tail-part}
@@ -90,11 +89,3 @@ module _ (width offset target d : ℕ) (e : d ≡ wrapSub target offset) where
     pub distance-far : isNear d ≡ false → distanceTo width offset (value target) ≡ refused 8
     unfolding distanceTo
     distance-far h = rw (ne-eqb width 4 w, sym e, h)
-
--- a distance has 32 bits
-pub distance-below : (width offset target n : ℕ) → distanceTo width offset (value target) ≡ value n → n < 2 ^ 32
-unfolding distanceTo
-distance-below width offset target n e =
-    by-test (either (eqb width 4) (isNear (wrapSub target offset)))
-    (λ y. omega (arith, same-value (rw y at e)))
-    (λ y. refused-not-value (rw y at e))

@@ -5,7 +5,6 @@ use Prim.Native.Nat.{ℕ, _+_, _-_, _^_, _≤_, _<_}
 use native.Mathlib.Omega.{arith}
 use lib.Dec.{eqb}
 use lib.ListN.{length, drop, getD}
-use Rattle.lists.specs.Choice.{either}
 use Rattle.lists.specs.Scan.{same, opens}
 use Rattle.lists.proofs.Tests.{by-test, by-eqb, by-leb}
 use Rattle.spec_numbers.specs.Parse.{Parsed, parseU32, parseHex, parseI32, unsignedValue}
@@ -16,7 +15,7 @@ use Rattle.spec_numbers.proofs.WholeLaws.{bad-not-is, same-is, bits-below}
 use Rattle.numbers.proofs.ReadLaws.{digits-many, digits-are, whole-minus, whole-plus, whole-plain, double-infinity, double-minus-infinity, double-hex, double-whole}
 use Rattle.spec_hasm.specs.Line.{hasHexPrefix}
 use Rattle.spec_hasm.specs.Token as definition
-use Rattle.spec_hasm.specs.Token.{numberOr, registerValue}
+use Rattle.spec_hasm.specs.Token.{numberOr}
 use Rattle.spec_hasm.specs.Token.Value.{value, refused}
 
 -- a value is no refusal
@@ -33,13 +32,6 @@ number-was k n (is m) e = ap is (same-value e)
 number-was k n bad e = refused-not-value e
 
 module _ (t : List ℕ) (n : ℕ) where
-  pub register-below : registerValue t ≡ value n → n < 2 ^ 32
-  unfolding registerValue
-  register-below e =
-      by-test (either (eqb (getD t 0 0) 114) (eqb (getD t 0 0) 82))
-      (λ y. u32-bound 10 n (drop 1 t) (number-was 6 n (parseU32 (drop 1 t)) (rw y at e)))
-      (λ y. refused-not-value (rw y at e))
-
   pub unsigned-below : definition.unsignedValue t ≡ value n → n < 2 ^ 32
   unfolding definition.unsignedValue
   unsigned-below e =
@@ -85,6 +77,3 @@ read-below n s e =
     (λ z. by-test (opens hexMark s)
     (λ x. hex-below n (drop 2 s) (sym (double-hex s y z x) ∙ e))
     (λ x. whole-below n s (sym (double-whole s y z x) ∙ e))))
-
-pub double-below : (t : List ℕ) (n : ℕ) → numberOr 12 (readDouble t) ≡ value n → n < 2 ^ 64
-double-below t n e = read-below n t (number-was 12 n (readDouble t) e)

@@ -1,8 +1,8 @@
 -- What stands between quotes, and the ways through the reading of a string's token. Assumes nothing.
 use mathlib.Core.Path.{_≡_, refl, ap, sym, _∙_}
-use mathlib.Core.Bool.{Bool, true, false, not}
+use mathlib.Core.Bool.{Bool, true, false}
 use mathlib.Core.List.{List, [], _∷_}
-use Prim.Native.Nat.{ℕ, zero, suc, _+_, _-_, _^_, _≤_, _<_}
+use Prim.Native.Nat.{ℕ, zero, suc, _+_, _-_, _≤_, _<_}
 use native.Mathlib.Omega.{arith}
 use lib.Dec.{eqb, leb}
 use lib.ListN.{length, take, drop, getD}
@@ -12,19 +12,17 @@ use Rattle.lists.specs.Found as search
 use Rattle.lists.specs.Found.Found.{found, missing}
 use Rattle.lists.specs.Scan.{all}
 use Rattle.lists.specs.Write.{Put}
-use Rattle.lists.proofs.Tests.{by-test, by-eqb, both-left, both-right, not-true}
+use Rattle.lists.proofs.Tests.{by-test, both-left, both-right, not-true}
 use Rattle.lists.proofs.Writes.{put-fits, kept-length}
 use Rattle.spec_strings.specs.Escape.{unescape}
 use Rattle.spec_strings.specs.Table.{lookup}
-use Rattle.spec_strings.proofs.TableLaws.{lookup-there}
 use Rattle.spec_hasm.specs.Token.{foundOr, unsignedValue, isQuoted, unquoted, stringValue}
-use Rattle.spec_hasm.specs.Token.Value.{value, refused}
+use Rattle.spec_hasm.specs.Token.Value.{refused}
 use Rattle.slices.specs.Answers.{foundOf}
 use Rattle.slices.specs.declared.search.Found.{Found}
 use Rattle.hasm_tokens.specs.declared.number_token.Value.{Value}
 use Rattle.hasm_tokens.specs.Values.{tokenAnswer}
 use Rattle.hasm_tokens.specs.TextValues.{indexOr, isLiteral}
-use Rattle.hasm_tokens.proofs.BoundLaws.{refused-not-value, same-value, unsigned-below}
 
 -- a byte, by whether it is a backslash
 pub literal-no : (b : ℕ) → b ≡ 92 → isLiteral b ≡ false
@@ -129,17 +127,3 @@ pub string-empty : (bytes ends t : List ℕ) → length t ≡ 0 → stringValue 
 unfolding stringValue
 string-empty bytes ends [] h = refl
 string-empty bytes ends (b ∷ s) h = absurd (omega arith)
-
--- the id of a string is one of the table; a number has 32 bits
-index-found : (k n : ℕ) (f : search.Found) → foundOr k f ≡ value n → f ≡ found n
-unfolding foundOr
-index-found k n (found m) e = ap found (same-value e)
-index-found k n missing e = refused-not-value e
-
-pub string-below : (bytes ends t : List ℕ) (n : ℕ) → length ends ≤ 2 ^ 32 → stringValue bytes ends t ≡ value n → n < 2 ^ 32
-string-below bytes ends t n h e =
-    by-eqb (getD t 0 0) 34
-    (λ q. by-test (isQuoted t)
-    (λ y. omega (arith, lookup-there (unquoted t) bytes ends n (index-found 10 n (lookup (unquoted t) bytes ends) (sym (string-text bytes ends t q y) ∙ e))))
-    (λ y. refused-not-value (sym (string-open bytes ends t q y) ∙ e)))
-    (λ q. unsigned-below t n (sym (string-number bytes ends t q) ∙ e))

@@ -38,10 +38,6 @@ part-listed {k = k} {n = n} (complete t k′ n′ e q w) p =
     record { lines = t; is-text = e ∙ ap (listed t) same-count; put = rw (sym same-end) w }
 part-listed (broken m p′ e q l) p = absurd (let z : _≡_ {A = ℕ} 0 1 = cc (sym (ap partRefusal p) ∙ q) in omega arith)
 
-pub part-size-kept : {x : Listed} {out out′ : List ℕ} {«from» : ℕ} {r : FunctionPart} → PartWritten x out «from» out′ r → length out′ ≡ length out
-part-size-kept (complete t k n e q w) = kept-length w
-part-size-kept (broken n p e q l) = l
-
 -- nothing in front of a listing, nothing behind one, and three in a row
 append-first : (x : Listed) → x ≡ append (listed [] 0) x
 unfolding append

@@ -4,7 +4,6 @@ use mathlib.Core.Bool.{true, false}
 use mathlib.Core.List.{List, [], _∷_, _++_}
 use Prim.Native.Nat.{ℕ, zero, suc, _+_, _-_, _*_, _/_, _≤_, _<_}
 use native.Mathlib.Omega.{arith}
-use lib.Dec.{eqb}
 use lib.ListN.{length, take, drop, getD, replicate, length-append, length-drop}
 use lib.Seq.{drop-drop, take-at, drop-at}
 use borrow.Author.Tests.{eq-eqb, ne-eqb, lt-ltb, le-ltb}
@@ -33,10 +32,6 @@ module _ (n : ℕ) (words : List ℕ) where
 
   pub pairs-behind : (count : ℕ) → goodPairs (suc n) (suc count) words ≡ true → goodPairs n count (drop 2 words) ≡ true
   pairs-behind count g = both-right (goodPair (getD words 0 0) (getD words 1 0)) _ (sym (pairs-used count) ∙ g)
-
-  pub pairs-unused : goodPairs (suc n) 0 words ≡ both (both (eqb (getD words 0 0) 0) (eqb (getD words 1 0) 0)) (goodPairs n 0 (drop 2 words))
-  unfolding goodPairs
-  pairs-unused = refl
 
 -- the operands of a row: no more, one that fits, one that doesn't
 module _ (cs words : List ℕ) (n : ℕ) where

@@ -76,10 +76,6 @@ next-start (one e l none) zero h = absurd (omega arith)
 next-start (one e l (one f m c)) zero h = omega arith
 next-start (one e l c) (suc k) h = next-start c k (omega arith)
 
-pub first-start : {rs : List (List ℕ)} {a b : ℕ} → Chain rs a b → 0 < length rs → offsetOf (getD rs 0 []) ≡ a
-first-start none h = absurd (omega arith)
-first-start (one e l c) h = e
-
 pub last-end : {rs : List (List ℕ)} {a b : ℕ} → Chain rs a b → (k : ℕ) → suc k ≡ length rs → offsetOf (getD rs k []) + spanOf (getD rs k []) ≡ b
 last-end none k h = absurd (omega arith)
 last-end (one e l none) zero h = omega arith

@@ -1,10 +1,10 @@
 -- What a line is: nothing, a label or an instruction (parse_hasm_function's first pass; document 01, 'Assembler'). Assumes nothing.
-use mathlib.Core.Bool.{Bool, not}
-use mathlib.Core.List.{List, []}
+use mathlib.Core.Bool.{Bool}
+use mathlib.Core.List.{List}
 use Prim.Native.Nat.{ℕ, _-_}
 use lib.Dec.{eqb, ltb}
 use lib.ListN.{length, getD, take, drop}
-use Rattle.lists.specs.Choice.{pick, both, either, within}
+use Rattle.lists.specs.Choice.{pick, both, either}
 use Rattle.lists.specs.Scan.{run, all, opens}
 use Rattle.lists.specs.Text.{text}
 use Rattle.lists.specs.Found.{Found}

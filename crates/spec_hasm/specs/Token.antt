@@ -1,10 +1,10 @@
 -- The value of an operand's token: parse_operand_token of parse.rs (document 01, 'Assembler'). Assumes nothing.
 use mathlib.Core.Bool.{Bool, false}
-use mathlib.Core.List.{List, []}
+use mathlib.Core.List.{List}
 use Prim.Native.Nat.{ℕ, _-_, _^_}
 use lib.Dec.{eqb, leb}
 use lib.ListN.{length, getD, take, drop}
-use Rattle.lists.specs.Choice.{pick, both, either, within}
+use Rattle.lists.specs.Choice.{pick, both, either}
 use Rattle.lists.specs.Found.{Found}
 use Rattle.lists.specs.Found.Found.{found, missing}
 use Rattle.spec_numbers.specs.TwosComplement.{wrapSub}

@@ -11,13 +11,8 @@ use Rattle.lists.specs.Choice.{pick, both}
 use Rattle.lists.proofs.Tests.{both-no-right}
 use Rattle.lists.proofs.Parts.{inside}
 use Rattle.spec_numbers.specs.Parse.{digitValue}
-use Rattle.spec_job.specs.Hex.{HexRead, withByte, hexFrom, hexAt}
+use Rattle.spec_job.specs.Hex.{HexRead, withByte, hexFrom}
 use Rattle.spec_job.specs.Hex.HexRead.{hex, noHex}
-
--- a digit stands inside the text
-pub digit-inside : (s : List ℕ) (i : ℕ) → digitValue (getD s i 0) < 16 → i < length s
-unfolding digitValue
-digit-inside s i h = inside s i (λ e. let z : digitValue (getD s i 0) ≡ 16 = rw e in omega (arith, z))
 
 module _ (s : List ℕ) (at : ℕ) where
   -- the end of the line
@@ -108,7 +103,3 @@ hex-spread (suc f) s at bs b e = first (hex-spread f s (at + 2)) (eqb (getD s at
         → pick t (hex [] (at + 1)) (pick (both (ltb high 16) (ltb low 16)) (withByte (16 * high + low) (hexFrom f s (at + 2))) noHex) ≡ hex bs b → Spread s at bs b
     first ih true q e = ended-spread s at bs b (eqb-true (getD s at 0) 10 q) e
     first ih false q e = more ih (both (ltb high 16) (ltb low 16)) e
-
--- a text holds at most half as many bytes in hex
-pub hex-half : (s : List ℕ) (at : ℕ) (bs : List ℕ) (b : ℕ) → hexAt s at ≡ hex bs b → 2 * length bs ≤ length s
-hex-half s at bs b e = let r = hex-spread (length s) s at bs b e in omega (arith, r .takes, r .inside-text)

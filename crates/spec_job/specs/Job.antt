@@ -10,7 +10,6 @@ use Rattle.spec_sheet.specs.Line.{Op}
 use Rattle.spec_sheet.specs.Scan.{after, literalAt}
 use Rattle.spec_sheet.specs.Sheet.{SheetRead, sheetAt}
 use Rattle.spec_sheet.specs.Sheet.SheetRead.{sheet, malformed}
-use Rattle.spec_job.specs.Hex.HexRead.{hex}
 use Rattle.spec_job.specs.Table.{TableRead, onHex, keyedHexAt, tableAt}
 use Rattle.spec_job.specs.Table.TableRead.{table, faultAfter}
 

@@ -8,14 +8,14 @@ use lib.ListN.{take, getD}
 use borrow.Author.Tests.{eq-eqb, ne-eqb, eqb-true}
 use Rattle.lists.specs.Scan.{all}
 use Rattle.lists.specs.Text.{text}
-use Rattle.lists.specs.Found.Found.{found, missing}
+use Rattle.lists.specs.Found.Found.{found}
 use Rattle.lists.proofs.Tests.{by-eqb, within-least, within-most}
 use Rattle.lists.proofs.Scans.{all-weaken}
 use Rattle.spec_sheet.specs.Scan.{isUpper, isLower, isDigit, isNameByte}
 use Rattle.spec_sheet.specs.Sheet.{Sheet, sheetAt, infoRows, findName}
 use Rattle.spec_sheet.specs.Sheet.SheetRead.{sheet}
-use Rattle.spec_sheet.proofs.NameTextLaws.{NameText, name-text, either-cases, invalid-no-name}
-use Rattle.spec_sheet.proofs.OwnNameLaws.{rowName, sheet-own-name, sheet-no-name}
+use Rattle.spec_sheet.proofs.NameTextLaws.{NameText, name-text, either-cases}
+use Rattle.spec_sheet.proofs.OwnNameLaws.{rowName, sheet-own-name}
 use Rattle.spec_sheet.proofs.RowLaws.{sheet-name}
 use Rattle.spec_inputs.specs.Context.{Context, nameOf}
 use Rattle.spec_inputs.specs.Inputs.{contextOf}
@@ -75,7 +75,3 @@ module _ (s : List ℕ) (at : ℕ) (sh : Sheet) (c : ℕ) (e : sheetAt s at ≡ 
   -- it is found again, at its opcode
   pub name-found : (n : ℕ) → k < n → 0 < size → findName s (nameOf (contextOf s (sh .opcodes) bytes ends) k) 0 (take n (infoRows (sh .opcodes))) ≡ found k
   name-found n l h = rw (row-name (contextOf s (sh .opcodes) bytes ends) k h) (sheet-own-name s at sh c e n k l h)
-
-  -- what stands for a gap is not
-  pub gap-missing : (n : ℕ) → size ≡ 0 → findName s (nameOf (contextOf s (sh .opcodes) bytes ends) k) 0 (take n (infoRows (sh .opcodes))) ≡ missing
-  gap-missing n z = rw (gap-name (contextOf s (sh .opcodes) bytes ends) k z) (sheet-no-name s at sh c e (text "<invalid>") n invalid-no-name)

@@ -63,11 +63,6 @@ space-separated [] = refl
 space-separated (p ∷ ps) = refl
 
 module _ (texts : Bool) (bytes ends : List ℕ) (at : ℕ) where
-  -- where a row's operands end there is no piece more
-  pub pieces-end : (codes pairs : List ℕ) → operandPieces texts bytes ends at (0 ∷ codes) pairs ≡ []
-  unfolding operandPieces
-  pieces-end codes pairs = refl
-
   -- an operand is one piece
   pub pieces-more : (code : ℕ) (codes pairs : List ℕ) → (code ≡ 0 → ⊥)
       → operandPieces texts bytes ends at (code ∷ codes) pairs ≡ operandText texts bytes ends at code (getD pairs 1 0) ∷ operandPieces texts bytes ends at codes (drop 2 pairs)
@@ -111,11 +106,6 @@ module _ (texts : Bool) (bytes ends : List ℕ) (at : ℕ) where
     -- a row of n operands makes n pieces
     pub pieces-count : (pairs : List ℕ) → length (operandPieces texts bytes ends at row pairs) ≡ length (g .codes)
     pieces-count pairs = rw (g .is-row, pieces-row (g .codes) (g .types) _ pairs) (codes-count (g .codes) (g .types) pairs)
-
-    -- each is the text of its operand
-    pub piece-at : (pairs : List ℕ) (i : ℕ) → i < length (g .codes)
-        → getD (operandPieces texts bytes ends at row pairs) i [] ≡ operandText texts bytes ends at (getD (g .codes) i 0) (getD pairs (2 * i + 1) 0)
-    piece-at pairs i h = rw (g .is-row, pieces-row (g .codes) (g .types) _ pairs) (codes-at (g .codes) (g .types) pairs i h)
 
 -- offset, name and operands
 pub instruction-text : (offsets texts : Bool) (e : Context) (r : List ℕ) → instructionText offsets texts e r ≡ offsetText offsets (offsetOf r) ++ nameOf e (opcodeOf r) ++ behindName (piecesOf texts e r)

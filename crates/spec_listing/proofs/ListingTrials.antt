@@ -3,7 +3,6 @@ use mathlib.Core.Path.{_≡_, refl}
 use mathlib.Core.Bool.{Bool, true, false}
 use mathlib.Core.List.{List, [], _∷_}
 use Prim.Native.Nat.{ℕ}
-use lib.ListN.{replicate}
 use Rattle.lists.specs.Scan.{run, same, opens}
 use Rattle.lists.specs.Text.{text}
 use Rattle.spec_numbers.specs.LittleEndian.{le}
@@ -28,7 +27,7 @@ use Rattle.spec_listing.specs.Operand.{distanceOf, targetOf, stringText,
 use Rattle.spec_listing.specs.Line.{offsetText, instructionText}
 use Rattle.spec_listing.specs.Labels.{endsFlow, targets, labelsOf, labelOffsets, among, different}
 use Rattle.spec_listing.specs.Listing.{labelLine, labelText, instructionLine, longLine, unlessLong, listDecoded, append, listedText, listEntries}
-use Rattle.spec_listing.specs.Module.{Area, functionName, banner, listFunctionIn, listFunctionsFrom}
+use Rattle.spec_listing.specs.Module.{functionName, banner, listFunctionIn, listFunctionsFrom}
 use Rattle.spec_listing.specs.Operation.{listOutcome, list, listModule}
 use Rattle.spec_inputs.specs.Inputs.{unlessFault, underTable, underContext, underInputs}
 

@@ -21,7 +21,7 @@ use Rattle.spec_sheet.specs.Types.{familyOf}
 use Rattle.spec_strings.specs.Table.{textOf}
 use Rattle.spec_strings.specs.Plain.{plain}
 use Rattle.spec_listing.specs.Operand.{targetOf, operandText}
-use Rattle.spec_listing.proofs.OperandShape.{register-text, number-text, shown-text, id-text, target-text, signed-text, double-text}
+use Rattle.spec_listing.proofs.OperandShape.{register-text, number-text, shown-text, target-text, signed-text, double-text}
 use Rattle.spec_listing.proofs.TokenBytes.{token-no-quote, token-first, decimal-token}
 use Rattle.spec_listing.proofs.PieceBytes.{QuotedText, plain-quoted}
 
@@ -55,10 +55,6 @@ module _ (texts : Bool) (bytes ends : List ℕ) (at code bits : ℕ) where
   -- UInt8, UInt16 and UInt32
   pub operand-number : familyOf code ≡ 2 → bits < 2 ^ 32 → Numbered bits (operandText texts bytes ends at code bits)
   operand-number f h = rw (number-text texts bytes ends at code bits f) (decimal-numbered bits h)
-
-  -- UInt8S, UInt16S and UInt32S by number
-  pub operand-id : familyOf code ≡ 3 → both texts (ltb bits (length ends)) ≡ false → bits < 2 ^ 32 → Numbered bits (operandText texts bytes ends at code bits)
-  operand-id f n h = rw (id-text texts bytes ends at code bits f n) (decimal-numbered bits h)
 
   -- the same by a plain text: what stands between the quotes says it
   pub operand-text : familyOf code ≡ 3 → both texts (ltb bits (length ends)) ≡ true → plain (textOf bytes ends bits) ≡ true

@@ -6,9 +6,9 @@ use Prim.Native.Nat.{ℕ, _+_, _-_}
 use native.Mathlib.Omega.{arith}
 use lib.Dec.{ltb}
 use lib.ListN.{length, getD, length-append}
-use lib.Seq.{take-length, take-append-le, getD-append-add}
+use lib.Seq.{getD-append-add}
 use Rattle.lists.specs.Choice.{both}
-use Rattle.lists.specs.Scan.{all, part}
+use Rattle.lists.specs.Scan.{all}
 use Rattle.spec_numbers.specs.Print.{decimal}
 use Rattle.spec_sheet.specs.Types.{familyOf}
 use Rattle.spec_strings.specs.Table.{textOf}
@@ -39,11 +39,6 @@ module _ (t piece : List ℕ) (q : QuotedText t piece) where
   quoted-last =
       let e : length piece - 1 ≡ length (34 ∷ q .inner) + 0 = omega (arith, quoted-length) in
       ap (λ (i : ℕ). getD piece i 0) e ∙ ap (λ (s : List ℕ). getD s (length (34 ∷ q .inner) + 0) 0) (q .shape) ∙ getD-append-add (34 ∷ q .inner) (34 ∷ []) 0 0
-
-  pub quoted-inner : part piece 1 (length piece - 2) ≡ q .inner
-  quoted-inner =
-      let e : length piece - 2 ≡ length (q .inner) = omega (arith, quoted-length) in
-      rw (e, q .shape, take-append-le (length (q .inner)) (q .inner) (34 ∷ []) (omega arith)) (take-length (q .inner))
 
 -- a plain text is shown by one
 pub plain-quoted : (t : List ℕ) → plain t ≡ true → QuotedText t (quoted t)

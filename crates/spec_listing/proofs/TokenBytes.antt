@@ -53,9 +53,6 @@ module _ (b : ℕ) (e : tokenByte b ≡ true) where
   pub token-no-slash : eqb b 47 ≡ false
   token-no-slash = not-true (eqb b 47) (both-left (not (eqb b 47)) _ (both-right (both (not (eqb b 34)) (not (eqb b 44))) _ others))
 
-  pub token-no-colon : eqb b 58 ≡ false
-  token-no-colon = not-true (eqb b 58) (both-right (not (eqb b 47)) _ (both-right (both (not (eqb b 34)) (not (eqb b 44))) _ others))
-
 -- one such byte or more
 pub record Token (s : List ℕ) : Type 0 where
   pub bytes : all tokenByte s ≡ true

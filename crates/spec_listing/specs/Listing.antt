@@ -1,5 +1,4 @@
 -- The listing of a body: disassemble_function of disasm.rs. Assumes nothing.
-use mathlib.Core.Bool.{Bool}
 use mathlib.Core.List.{List, [], _∷_, _++_}
 use Prim.Native.Nat.{ℕ, max}
 use lib.Dec.{ltb}

@@ -5,7 +5,7 @@ use Prim.Native.Nat.{ℕ, zero, suc, _+_, _-_, _*_, _/_, _%_, _^_, _≤_, _<_}
 use native.Mathlib.Nat.{pow-suc, one-le-pow, lt-of-lt-of-le, pow-le-pow-right}
 use native.Mathlib.Omega.{arith}
 use lib.ListN.{length, take, getD}
-use lib.Seq.{drop-cons, take-length}
+use lib.Seq.{drop-cons}
 use Rattle.lists.specs.Scan.{Bytes, part}
 use Rattle.spec_numbers.specs.LittleEndian.{le, leBytes}
 
@@ -45,10 +45,6 @@ unfolding le
 le-bound zero s h = omega arith
 le-bound (suc n) [] h = one-le-pow (suc n) 256 (omega arith)
 le-bound (suc n) (b ∷ bs) h = omega (arith, h 0, le-bound n bs (λ i. h (suc i)), pow-suc 256 n)
-
--- the number of a list of bytes
-pub le-below : (s : List ℕ) → Bytes s → le s < 256 ^ length s
-le-below s h = rw (take-length s) at (le-bound (length s) s h)
 
 -- seven bytes or fewer leave room for one more in 64 bits
 pub le-room : (n : ℕ) (s : List ℕ) → Bytes s → n ≤ 7 → le (take n s) < 256 ^ 7

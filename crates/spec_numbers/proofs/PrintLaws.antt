@@ -12,7 +12,7 @@ use Rattle.lists.specs.Choice.{both}
 use Rattle.lists.specs.Scan.{all}
 use Rattle.lists.proofs.Tests.{by-leb, both-yes, both-left, both-right}
 use Rattle.lists.proofs.Scans.{all-append}
-use Rattle.spec_numbers.specs.Print.{digit, digits, padded, decimal, signedDecimal, hexLower, hexUpper, hexLower4, hexUpper4, hexUpper16}
+use Rattle.spec_numbers.specs.Print.{digit, digits, padded, decimal, signedDecimal, hexLower, hexUpper, hexLower4}
 use Rattle.spec_numbers.specs.TwosComplement.{signed}
 use lib.IntN.{ℤ, pos, negsuc}
 
@@ -202,28 +202,6 @@ pub decimal-length : (n : ℕ) → length (decimal n) ≤ 20
 unfolding decimal
 decimal-length n = digits-length 10 97 (omega arith) 20 n
 
--- a u32 has at most 10
-pub decimal-length-32 : (n : ℕ) → n < 2 ^ 32 → length (decimal n) ≤ 10
-unfolding decimal
-decimal-length-32 n h = digits-few 10 97 (omega arith) 19 9 n (omega arith) (omega arith)
-
--- an i32 has at most 11 characters
-pub signed-length : (b : ℕ) → b < 2 ^ 32 → length (signedDecimal (signed 32 b)) ≤ 11
-signed-length b h =
-    by-leb (2 ^ 31) b
-    (λ l. rw (minus-decimal b l h) (omega (arith, decimal-length-32 (2 ^ 32 - b) (omega arith))))
-    (λ l. rw (signed-decimal b l) (omega (arith, decimal-length-32 b (omega arith))))
-
--- a number has at most 16 hex digits
-pub hexUpper-length : (n : ℕ) → length (hexUpper n) ≤ 16
-unfolding hexUpper
-hexUpper-length n = digits-length 16 65 (omega arith) 16 n
-
--- in lower case too
-pub hexLower-length : (n : ℕ) → length (hexLower n) ≤ 16
-unfolding hexLower
-hexLower-length n = digits-length 16 97 (omega arith) 16 n
-
 -- a number below 16 ^ suc k has at most suc k hex digits
 pub hexUpper-few : (k n : ℕ) → n < 2 ^ 64 → n < 16 ^ suc k → length (hexUpper n) ≤ suc k
 unfolding hexUpper
@@ -234,20 +212,10 @@ pub hexLower-few : (k n : ℕ) → n < 2 ^ 64 → n < 16 ^ suc k → length (hex
 unfolding hexLower
 hexLower-few k n h l = digits-few 16 97 (omega arith) 15 k n (omega arith) l
 
--- the 16 digits of a double are exactly 16
-pub hexUpper16-length : (n : ℕ) → n < 2 ^ 64 → length (hexUpper16 n) ≡ 16
-unfolding hexUpper16
-hexUpper16-length n h = padded-length 16 (hexUpper n) (hexUpper-length n)
-
 -- an offset below 65536 has exactly 4 digits
 pub hexLower4-length : (n : ℕ) → n < 65536 → length (hexLower4 n) ≡ 4
 unfolding hexLower4
 hexLower4-length n h = padded-length 4 (hexLower n) (hexLower-few 3 n (omega arith) (omega arith))
-
--- and so has a character in an escape
-pub hexUpper4-length : (n : ℕ) → n < 65536 → length (hexUpper4 n) ≡ 4
-unfolding hexUpper4
-hexUpper4-length n h = padded-length 4 (hexUpper n) (hexUpper-few 3 n (omega arith) (omega arith))
 
 -- what holds of the characters 0 to 9 holds of all decimal text
 pub decimal-every : (p : ℕ → Bool) → ((b : ℕ) → 48 ≤ b → b ≤ 57 → p b ≡ true) → (n : ℕ) → all p (decimal n) ≡ true
@@ -263,8 +231,3 @@ pub signed-every : (p : ℕ → Bool) → ((b : ℕ) → 48 ≤ b → b ≤ 57 �
 unfolding signedDecimal all
 signed-every p f m (pos n) = decimal-every p f n
 signed-every p f m (negsuc n) = both-yes (p 45) (all p (decimal (suc n))) m (decimal-every p f (suc n))
-
--- only 0 has a 0 in front
-pub decimal-first : (n : ℕ) → n < 10 ^ 20 → getD (decimal n) 0 0 ≡ 48 → n ≡ 0
-unfolding decimal
-decimal-first n h e = digits-first 10 97 (omega arith) (omega arith) 19 n h e

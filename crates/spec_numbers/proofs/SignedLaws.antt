@@ -25,12 +25,6 @@ signed-unsigned (suc k) (negsuc n) p h =
     let q : 2 ^ suc k - suc (2 ^ suc k - suc n) ≡ n = omega arith in
     rw (e, le-ltb (2 ^ suc k - suc n) (2 ^ k) (omega arith), q)
 
--- the bits of a number in range are below 2 ^ k
-pub bits-bound : (k : ℕ) (z : ℤ) → 1 ≤ k → mag z < 2 ^ (k - 1) → unsigned k z < 2 ^ k
-bits-bound zero z p h = absurd (omega arith)
-bits-bound (suc k) (pos n) p h = let e : suc k - 1 ≡ k = omega arith in omega (arith, pow-suc 2 k, rw e at h)
-bits-bound (suc k) (negsuc n) p h = let e : suc k - 1 ≡ k = omega arith in omega (arith, pow-suc 2 k, rw e at h)
-
 -- and bits read as a number in range
 pub signed-bound : (k n : ℕ) → 1 ≤ k → n < 2 ^ k → mag (signed k n) < 2 ^ (k - 1)
 signed-bound zero n p h = absurd (omega arith)

@@ -1,5 +1,5 @@
 -- Signed numbers by their bits, and 32-bit sums and differences that wrap. Assumes nothing.
-use Prim.Native.Nat.{ℕ, zero, suc, _+_, _-_, _^_, _%_}
+use Prim.Native.Nat.{ℕ, suc, _+_, _-_, _^_, _%_}
 use lib.Dec.{ltb}
 use lib.IntN.{ℤ, pos, negsuc}
 use Rattle.lists.specs.Choice.{pick}

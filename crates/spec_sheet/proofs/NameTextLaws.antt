@@ -8,15 +8,14 @@ use native.Mathlib.Omega.{arith}
 use lib.Dec.{eqb, leb}
 use lib.ListN.{length, take, drop, getD}
 use lib.Seq.{drop-cons, length-take-le}
-use borrow.Author.Tests.{leb-true, eqb-true}
+use borrow.Author.Tests.{leb-true}
 use Rattle.lists.specs.Choice.{both, either}
 use Rattle.lists.specs.Scan.{run, all, opens, part}
 use Rattle.lists.specs.Text.{text}
 use Rattle.lists.proofs.Tests.{both-left, both-right, both-yes, not-true, by-test, true-not-false}
 use Rattle.lists.proofs.Parts.{part-at, inside}
 use Rattle.lists.proofs.Scans.{run-le, run-cons-go}
-use Rattle.spec_sheet.specs.Scan.{isUpper, isLower, isDigit, isNameByte, mayBeName}
-use Rattle.spec_sheet.proofs.TypeLaws.{within-range}
+use Rattle.spec_sheet.specs.Scan.{isUpper, isNameByte, mayBeName}
 use Rattle.spec_sheet.proofs.OpLaws.{GoodName}
 
 -- what a run takes passes its test
@@ -55,18 +54,6 @@ pub either-cases : {P : Type 0} (a b : Bool) → either a b ≡ true → (a ≡ 
 either-cases true b e f g = f refl
 either-cases false b e f g = g e
 
--- a name's byte lies between `0` and `z`, so it is no space, quote, comma or slash
-pub name-byte-range : (b : ℕ) → isNameByte b ≡ true → (48 ≤ b) × (b ≤ 122)
-unfolding isNameByte
-name-byte-range b e =
-    either-cases (isUpper b) _ e (λ u. wider 65 90 (within-range 65 90 b u) (omega arith) (omega arith))
-    (λ f. either-cases (isLower b) _ f (λ u. wider 97 122 (within-range 97 122 b u) (omega arith) (omega arith))
-    (λ g. either-cases (isDigit b) _ g (λ u. wider 48 57 (within-range 48 57 b u) (omega arith) (omega arith))
-    (λ u. let q = eqb-true b 95 u in (omega arith, omega arith))))
-  where
-    wider : (lo hi : ℕ) → (lo ≤ b) × (b ≤ hi) → 48 ≤ lo → hi ≤ 122 → (48 ≤ b) × (b ≤ 122)
-    wider lo hi r l h = (omega (arith, r .0), omega (arith, r .1))
-
 module _ (s : List ℕ) (start size : ℕ) (g : GoodName s start size) where
   tests : both (leb size 48) (both (not (opens (text "Function") (drop start s))) (isUpper (getD s start 0))) ≡ true
   unfolding mayBeName
@@ -99,10 +86,6 @@ module _ (s : List ℕ) (start size : ℕ) (g : GoodName s start size) where
   -- "letters, digits or underscores"
   pub name-bytes : all isNameByte (part s start size) ≡ true
   name-bytes = rw (g .run-is) (run-all-taken isNameByte (drop start s))
-
-  -- the same, byte by byte
-  pub name-byte-at : (i : ℕ) → i < size → isNameByte (getD (part s start size) i 0) ≡ true
-  name-byte-at i h = all-at isNameByte (part s start size) name-bytes i (omega (arith, name-length))
 
   -- it opens with an upper-case letter
   pub name-upper : isUpper (getD (part s start size) 0 0) ≡ true

@@ -8,10 +8,9 @@ use lib.ListN.{length, getD, set, replicate, length-set, length-append, length-r
 use lib.Seq.{getD-set-same, getD-set-other, getD-append-add}
 use Rattle.lists.proofs.Tests.{by-eqb, by-leb}
 use Rattle.spec_sheet.specs.Line.{Op, typeRow, infoRow}
-use Rattle.spec_sheet.specs.Sheet.{fill, noTypeRows, noInfoRows, typeRows, infoRows, Sheet, sheetAt, above, largest}
+use Rattle.spec_sheet.specs.Sheet.{fill, noTypeRows, noInfoRows, typeRows, infoRows, Sheet, sheetAt, above}
 use Rattle.spec_sheet.specs.Sheet.SheetRead.{sheet}
 use Rattle.spec_sheet.proofs.OpLaws.{GoodName, GoodOp, TypeCodes, none, one}
-use Rattle.spec_sheet.proofs.NameTextLaws.{name-least}
 use Rattle.spec_sheet.proofs.FillLaws.{fill-more, above-more}
 use Rattle.spec_sheet.proofs.TakenLaws.{Taken, start, more, sheet-taken, sheet-some}
 
@@ -146,10 +145,6 @@ module _ (row : List ℕ) (n : ℕ) (t : TypesOf row n) where
   pub types-length : length row ≡ 8
   types-length = rw (t .row-is, length-append, length-replicate) (omega (arith, t .few))
 
-  -- a count is at most 8
-  pub types-most : n ≤ 8
-  types-most = omega (arith, t .count-is, t .few)
-
   -- below the count stand the codes of types
   pub types-code : (i : ℕ) → i < n → (0 < getD row i 0) × (getD row i 0 ≤ 12)
   types-code i h =
@@ -210,13 +205,6 @@ listed-rows s os (more seen o t f e) p m =
     rw (List·Memᴰ·eq-of-singleton w) (r .types, r .info))
     (List·Memᴰ·append-cases seen (rw e at m)))
 
--- the largest opcode's rows are no gap
-pub last-rows : (s : List ℕ) (os : List Op) → Taken s os → 0 < length os → OpRows s os (largest os)
-last-rows s os start h = absurd (omega arith)
-last-rows s os (more seen o t f e) h =
-    let q : suc (o .code) - 1 ≡ o .code = omega arith in
-    rw (e, above-more 0 seen o, q) (own-rows s seen o (f .good))
-
 -- a row with a name is an opcode's
 pub named-row : (s : List ℕ) (os : List Op) → Taken s os → (k : ℕ) → 0 < getD (getD (infoRows os) k []) 3 0 → OpRows s os k
 named-row s os t k h =
@@ -228,14 +216,6 @@ named-row s os t k h =
 pub row-name : (s : List ℕ) (os : List Op) (k : ℕ) → OpRows s os k → GoodName s (getD (getD (infoRows os) k []) 2 0) (getD (getD (infoRows os) k []) 3 0)
 unfolding infoRow
 row-name s os k r = rw (r .info) (r .good .name)
-
--- so it is not empty
-pub row-named : (s : List ℕ) (os : List Op) (k : ℕ) → OpRows s os k → 0 < getD (getD (infoRows os) k []) 3 0
-row-named s os k r = name-least s _ _ (row-name s os k r)
-
--- a row without a name is a gap's
-pub unnamed-row : (s : List ℕ) (os : List Op) → Taken s os → (k : ℕ) → k < 256 → getD (getD (infoRows os) k []) 3 0 ≡ 0 → GapRows os k
-unnamed-row s os t k h e = gap-of (rows-at s os t k h) (λ r. omega (arith, row-named s os k r))
 
 -- the same of a sheet that was read
 module _ (s : List ℕ) (at : ℕ) (sh : Sheet) (c : ℕ) (e : sheetAt s at ≡ sheet sh c) where
@@ -254,37 +234,12 @@ module _ (s : List ℕ) (at : ℕ) (sh : Sheet) (c : ℕ) (e : sheetAt s at ≡ 
   pub sheet-type-length : (k : ℕ) → k < 256 → length (getD (typeRows (sh .opcodes)) k []) ≡ 8
   sheet-type-length k h = types-length _ _ (sheet-types k h)
 
-  -- the row beside it has four numbers
-  pub sheet-info-length : (k : ℕ) → k < 256 → length (getD (infoRows (sh .opcodes)) k []) ≡ 4
-  unfolding infoRow
-  sheet-info-length k h = go (sheet-rows k h)
-    where
-      go : RowsAt s (sh .opcodes) k → length (getD (infoRows (sh .opcodes)) k []) ≡ 4
-      go (gap g) = rw (g .info)
-      go (op r) = rw (r .info)
-
   -- at any place a code is at most 12
   pub sheet-code-most : (k i : ℕ) → getD (getD (typeRows (sh .opcodes)) k []) i 0 ≤ 12
   sheet-code-most k i =
       by-leb 256 k
       (λ h. rw (type-rows-past (sh .opcodes) k h) (omega arith))
       (λ h. types-small _ _ (sheet-types k h) i)
-
-  -- at any place a count is at most 8
-  pub sheet-count-most : (k : ℕ) → getD (getD (infoRows (sh .opcodes)) k []) 0 0 ≤ 8
-  sheet-count-most k =
-      by-leb 256 k
-      (λ h. rw (info-rows-past (sh .opcodes) k h) (omega arith))
-      (λ h. types-most _ _ (sheet-types k h))
-
-  -- at any place a jump mark is at most 1
-  pub sheet-jump-most : (k : ℕ) → getD (getD (infoRows (sh .opcodes)) k []) 1 0 ≤ 1
-  unfolding infoRow
-  sheet-jump-most k = by-leb 256 k (λ h. rw (info-rows-past (sh .opcodes) k h) (omega arith)) (λ h. go (sheet-rows k h))
-    where
-      go : RowsAt s (sh .opcodes) k → getD (getD (infoRows (sh .opcodes)) k []) 1 0 ≤ 1
-      go (gap g) = rw (g .info) (omega arith)
-      go (op r) = rw (r .info) (omega (arith, r .good .jump))
 
   -- one more than the largest opcode is at least 1
   pub sheet-above-least : 1 ≤ above 0 (sh .opcodes)
@@ -298,14 +253,6 @@ module _ (s : List ℕ) (at : ℕ) (sh : Sheet) (c : ℕ) (e : sheetAt s at ≡ 
   pub sheet-listed-below : (o : Op) → List·Memᴰ o (sh .opcodes) → o .code < above 0 (sh .opcodes)
   sheet-listed-below = listed-below s (sh .opcodes) taken
 
-  -- rows from there on are gaps
-  pub sheet-gaps : (k : ℕ) → k < 256 → above 0 (sh .opcodes) ≤ k → GapRows (sh .opcodes) k
-  sheet-gaps = gaps-from s (sh .opcodes) taken
-
-  -- the largest opcode's rows are no gap
-  pub sheet-largest : OpRows s (sh .opcodes) (largest (sh .opcodes))
-  sheet-largest = last-rows s (sh .opcodes) taken (sheet-some s at sh c e)
-
   -- a row with a name is an opcode's
   pub sheet-named : (k : ℕ) → 0 < getD (getD (infoRows (sh .opcodes)) k []) 3 0 → OpRows s (sh .opcodes) k
   sheet-named = named-row s (sh .opcodes) taken
@@ -314,10 +261,6 @@ module _ (s : List ℕ) (at : ℕ) (sh : Sheet) (c : ℕ) (e : sheetAt s at ≡ 
   pub sheet-name : (k : ℕ) → 0 < getD (getD (infoRows (sh .opcodes)) k []) 3 0
       → GoodName s (getD (getD (infoRows (sh .opcodes)) k []) 2 0) (getD (getD (infoRows (sh .opcodes)) k []) 3 0)
   sheet-name k h = row-name s (sh .opcodes) k (sheet-named k h)
-
-  -- a row without a name is a gap's
-  pub sheet-unnamed : (k : ℕ) → k < 256 → getD (getD (infoRows (sh .opcodes)) k []) 3 0 ≡ 0 → GapRows (sh .opcodes) k
-  sheet-unnamed = unnamed-row s (sh .opcodes) taken
 
   -- a row with a name is at most the largest opcode's
   pub sheet-named-below : (k : ℕ) → 0 < getD (getD (infoRows (sh .opcodes)) k []) 3 0 → k < above 0 (sh .opcodes)

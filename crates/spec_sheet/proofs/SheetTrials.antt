@@ -1,14 +1,13 @@
 -- Sheets that are taken, and one refused for each kind of fault, by computing the definitions. Assumes nothing.
 use mathlib.Core.Path.{_≡_, refl}
 use mathlib.Core.List.{List, [], _∷_}
-use Prim.Native.Nat.{ℕ, zero}
+use Prim.Native.Nat.{ℕ}
 use mathlib.Core.Bool.{Bool, true}
 use lib.ListN.{length}
 use Rattle.lists.specs.Choice.{both}
 use Prim.Native.String.{String}
 use Rattle.lists.specs.Text.{text}
 use Rattle.lists.specs.Scan.{run, same, opens}
-use Rattle.lists.specs.Found.Found.{missing}
 use Rattle.spec_numbers.specs.Parse.{digitValue, digitsValue, unsignedValue}
 use Rattle.spec_sheet.specs.Types.{typeNames, typeCodeIn, typeCode}
 use Rattle.spec_sheet.specs.Scan.{after, literalAt, isNameByte, numberRead, numberAt, keyedAt, mayBeName, nameAt, typeAt}

@@ -1,8 +1,8 @@
 -- A type's name has four bytes or more, so that a word may be counted from its fifth byte on. Assumes nothing.
 use mathlib.Core.Path.{_≡_, refl, ap, sym, _∙_}
-use mathlib.Core.Bool.{Bool, true, false}
+use mathlib.Core.Bool.{Bool, true}
 use mathlib.Core.List.{List, [], _∷_, _++_}
-use Prim.Native.Nat.{ℕ, zero, suc, _+_, _-_, _≤_, _<_, min}
+use Prim.Native.Nat.{ℕ, zero, suc, _+_, _-_, _≤_, _<_}
 use native.Mathlib.Omega.{arith}
 use lib.Dec.{leb}
 use lib.ListN.{length, take, drop, length-take, length-drop, take-append-drop}
@@ -11,12 +11,12 @@ use borrow.Author.Tests.{leb-true}
 use Rattle.lists.specs.Choice.{both}
 use Rattle.lists.specs.Scan.{run, all, same, part}
 use Rattle.lists.specs.Text.{text}
-use Rattle.lists.proofs.Tests.{both-left, both-right, both-yes, by-test, by-eqb, true-not-false}
+use Rattle.lists.proofs.Tests.{both-left, both-right, both-yes, by-test, by-eqb}
 use Rattle.lists.proofs.Scans.{run-cons-go, same-eq}
 use Rattle.spec_sheet.specs.Types.{typeNames, typeCodeIn, typeCode}
 use Rattle.spec_sheet.specs.Scan.{isNameByte, typeAt}
 use Rattle.spec_sheet.specs.Scan.Step.{next, off}
-use Rattle.spec_sheet.proofs.TypeLaws.{code-here, code-other}
+use Rattle.spec_sheet.proofs.TypeLaws.{code-other}
 use Rattle.spec_sheet.proofs.ScanLaws.{type-here, type-off}
 use Rattle.spec_sheet.proofs.NameTextLaws.{run-all-taken}
 

@@ -10,7 +10,7 @@ use lib.ListN.{length, length-append}
 use Rattle.lists.specs.Choice.{pick, either, within}
 use Rattle.lists.proofs.Tests.{by-test, by-leb, by-eqb, within-most}
 use Rattle.spec_strings.specs.Utf8.{broken, afterLead, afterNext, step, leadBits, bitsAfter, charsFrom}
-use Rattle.spec_strings.specs.Escape.{escapeAll, escapeText}
+use Rattle.spec_strings.specs.Escape.{escapeAll}
 use Rattle.spec_strings.proofs.Utf8Laws.{step-broken, step-ascii, lead-stray, lead-two, lead-three, lead-four, lead-past}
 use Rattle.spec_strings.proofs.EscapeLaws.{escape-length}
 
@@ -111,8 +111,3 @@ chars-length (b ∷ s) st acc h =
     (λ n. by-eqb (step st b) 0
     (λ z. rw (z, length-append) (omega (arith, escape-length (bitsAfter st acc b) (whole-small b acc st h z), chars-length s 0 0 (omega arith))))
     (λ z. rw (ne-eqb (step st b) 0 z, ne-eqb (step st b) broken n) (omega (arith, chars-length s (step st b) (bitsAfter st acc b) (small-bits b acc st h n z)))))
-
--- the escape of any text is at most ten times as long
-pub escape-text-length : (s : List ℕ) → length (escapeText s) ≤ 10 * length s
-unfolding escapeText
-escape-text-length s = chars-length s 0 0 (omega arith)

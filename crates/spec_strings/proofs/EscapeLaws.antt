@@ -10,7 +10,7 @@ use lib.ListN.{length, getD, length-append}
 use lib.Seq.{getD-append-add}
 use Rattle.lists.specs.Choice.{pick, both, within}
 use Rattle.lists.specs.Scan.{all}
-use Rattle.lists.proofs.Tests.{both-left, both-right, both-yes, both-no-left, by-eqb, by-leb, not-true, within-low, within-high, within-least, within-most}
+use Rattle.lists.proofs.Tests.{both-left, both-right, both-yes, by-eqb, by-leb, not-true, within-least, within-most}
 use Rattle.lists.proofs.Scans.{all-append}
 use Rattle.spec_numbers.specs.Print.{hexUpper, hexUpper4}
 use Rattle.spec_numbers.proofs.PrintLaws.{digits-few, padded-length}
@@ -35,21 +35,6 @@ module _ (b : ℕ) where
   plain-rest : (b ≡ 9 → ⊥) → (b ≡ 10 → ⊥) → (b ≡ 13 → ⊥) → plainByte b ≡ both (within 32 126 b) (not (eqb b 34))
   unfolding plainByte
   plain-rest n9 n10 n13 = rw (ne-eqb b 9 n9, ne-eqb b 10 n10, ne-eqb b 13 n13)
-
-  -- above 126
-  pub plain-high : 126 < b → plainByte b ≡ false
-  plain-high h = plain-rest (λ z. omega arith) (λ z. omega arith) (λ z. omega arith) ∙ both-no-left (within 32 126 b) _ (within-high 32 126 b h)
-
-  -- 32 to 126
-  pub plain-shown : 32 ≤ b → b ≤ 126 → plainByte b ≡ not (eqb b 34)
-  plain-shown l h = plain-rest (λ z. omega arith) (λ z. omega arith) (λ z. omega arith) ∙ rw (le-leb 32 b l, le-leb b 126 h)
-
-  -- below 32
-  pub plain-low : b < 32 → (b ≡ 9 → ⊥) → (b ≡ 10 → ⊥) → plainByte b ≡ eqb b 13
-  unfolding plainByte
-  plain-low h n9 n10 =
-      by-eqb b 13 (λ z. rw z)
-      (λ n13. plain-rest n9 n10 n13 ∙ both-no-left (within 32 126 b) _ (within-low 32 126 b h) ∙ sym (ne-eqb b 13 n13))
 
 -- the bytes of plain text, by how they are escaped
 data Kind : ℕ → Type 0 where

@@ -33,7 +33,6 @@ use Rattle.spec_listing.proofs.LineNames.{name-token, sheet-name-text, name-fou
 use Rattle.spec_listing.proofs.LineNames.ListedName.{named}
 use Rattle.spec_listing.proofs.LineOffset.{offset-no-name}
 use Rattle.spec_hasm.specs.Line.{opcodeNamed}
-use Rattle.spec_hasm.specs.Line.Statement.{instruction}
 use Rattle.spec_hasm.specs.Assemble.{Assembled, Label, Code, onStatement, codesFrom, rowOf, onName, unlessBadName, foundIn, operandsFrom, behind, onOperands, bytesFrom}
 use Rattle.spec_hasm.specs.Assemble.Assembled.{assembled}
 use Rattle.spec_hasm.specs.Assemble.Label.{none, called}

@@ -1,5 +1,5 @@
 -- Laws of operands from values. Assumes nothing.
-use mathlib.Core.Path.{_≡_, refl, sym, _∙_}
+use mathlib.Core.Path.{_≡_, refl, ap, sym, _∙_}
 use mathlib.Core.Bool.{true}
 use Prim.Native.Nat.{ℕ, zero, suc, _-_, _*_, _/_, _%_, _^_, _≤_, _<_}
 use native.Mathlib.Nat.{pow-suc}
@@ -12,7 +12,19 @@ use Rattle.spec_numbers.specs.TwosComplement.{extend8}
 use Rattle.spec_numbers.proofs.SignedLaws.{unsigned-signed}
 use Rattle.spec_body.specs.Encode.{kindWidths, goodPair, encodeOperand}
 use Rattle.decode.specs.Value.{valueOf}
-use Rattle.encode.specs.Value.{encodeValue}
+use Rattle.spec_body.specs.Encode.{Fitted}
+use Rattle.spec_body.specs.Encode.Fitted.{fits, noFit}
+use Rattle.encode.specs.declared.write_operand.Fitted.the-variants.{Bits, NoFit}
+use Rattle.encode.specs.Value.{encodeValue, fittedOf}
+
+-- what was fitted, by the answer
+pub fitted-bits : (p : Fitted) (n : ℕ) → fittedOf p ≡ Bits n → p ≡ fits n
+fitted-bits (fits m) n e = let q : m ≡ n = cc e in ap fits q
+fitted-bits noFit n e = absurd (let z : _≡_ {A = ℕ} 0 1 = cc e in omega arith)
+
+pub fitted-misfit : (p : Fitted) → fittedOf p ≡ NoFit → p ≡ noFit
+fitted-misfit (fits m) e = absurd (let z : _≡_ {A = ℕ} 0 1 = cc e in omega arith)
+fitted-misfit noFit e = refl
 
 -- a byte less of the number, and a byte less of the room
 pub one-byte-less : (w n : ℕ) → 0 < w → ltb n (256 ^ w) ≡ ltb (n / 256) (256 ^ (w - 1))

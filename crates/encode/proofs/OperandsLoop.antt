@@ -10,7 +10,7 @@ use borrow.Author.Tests.{ne-eqb}
 use Rattle.lists.specs.Write.{Put, top}
 use Rattle.lists.proofs.Writes.{_then_, wrote-none}
 use Rattle.spec_numbers.specs.LittleEndian.{leBytes}
-use Rattle.spec_numbers.specs.Parse.Parsed.{is, bad}
+use Rattle.spec_body.specs.Encode.Fitted.{fits, noFit}
 use Rattle.spec_sheet.specs.Types.{widthOf}
 use Rattle.spec_body.specs.Encode.{Operands, encodeOperand, encodeOperands, operandBytes, prependBytes}
 use Rattle.spec_body.specs.Encode.Operands.{bytes, misfit}
@@ -36,11 +36,11 @@ module _ (c : ℕ) (cs ws : List ℕ) (n : ℕ) where
   unfolding encodeOperands
   no-code e = rw (e, encodeOperands)
 
-  fitting : (v : ℕ) → (c ≡ 0 → ⊥) → encodeOperand c (getD ws 0 0) (getD ws 1 0) ≡ is v → encodeOperands (c ∷ cs) ws n ≡ prependBytes (leBytes (widthOf c) v) (encodeOperands cs (drop 2 ws) (n + 1))
+  fitting : (v : ℕ) → (c ≡ 0 → ⊥) → encodeOperand c (getD ws 0 0) (getD ws 1 0) ≡ fits v → encodeOperands (c ∷ cs) ws n ≡ prependBytes (leBytes (widthOf c) v) (encodeOperands cs (drop 2 ws) (n + 1))
   unfolding encodeOperands operandBytes
   fitting v e f = rw (encodeOperands, ne-eqb c 0 e, f)
 
-  unfit : (c ≡ 0 → ⊥) → encodeOperand c (getD ws 0 0) (getD ws 1 0) ≡ bad → encodeOperands (c ∷ cs) ws n ≡ misfit n
+  unfit : (c ≡ 0 → ⊥) → encodeOperand c (getD ws 0 0) (getD ws 1 0) ≡ noFit → encodeOperands (c ∷ cs) ws n ≡ misfit n
   unfolding encodeOperands operandBytes
   unfit e f = rw (encodeOperands, ne-eqb c 0 e, f)
 
@@ -78,11 +78,11 @@ module _ (row words : List ℕ) (at : ℕ) (out₀ : List ℕ) («from» : ℕ) 
           let w : getD (drop (2 * i) (pairsAt words at)) 0 0 ≡ getD words p 0 = pair-word words at i p q l 0 (omega arith) ∙ ap (λ (n : ℕ). getD words n 0) z in
           rw (w, pair-word words at i p q l 1 (omega arith))
 
-      pub refuses : (out′ : List ℕ) → encodeOperand (getD row i 0) (getD words p 0) (getD words (p + 1) 0) ≡ bad → Operanded (encodeOperands row (pairsAt words at) 1) out₀ «from» out′ (Misfit (i + 1))
+      pub refuses : (out′ : List ℕ) → encodeOperand (getD row i 0) (getD words p 0) (getD words (p + 1) 0) ≡ noFit → Operanded (encodeOperands row (pairsAt words at) 1) out₀ «from» out′ (Misfit (i + 1))
       unfolding prependBytes
       refuses out′ f = misfits (i + 1) (g .left ∙ (rw (here, unfit (getD row i 0) (drop (i + 1) row) (drop (2 * i) (pairsAt words at)) (i + 1) e (operand ∙ f)))) refl
 
-      pub turn : (v w : ℕ) (out′ : List ℕ) (k′ : ℕ) → encodeOperand (getD row i 0) (getD words p 0) (getD words (p + 1) 0) ≡ is v → w ≡ widthOf (getD row i 0) → Put out k (leBytes w v) out′ k′
+      pub turn : (v w : ℕ) (out′ : List ℕ) (k′ : ℕ) → encodeOperand (getD row i 0) (getD words p 0) (getD words (p + 1) 0) ≡ fits v → w ≡ widthOf (getD row i 0) → Put out k (leBytes w v) out′ k′
           → Going row words at out₀ «from» out′ k′ (i + 1)
       turn v w out′ k′ f d t =
           let bs = leBytes (widthOf (getD row i 0)) v in

@@ -4,7 +4,7 @@ ghost use lib.ListN.{length};
 ghost use Rattle.spec_body.specs.Encode.{encodeOperands};
 ghost use Rattle.encode.specs.Ahead.{pairsAt};
 ghost use Rattle.encode.specs.OperandsWritten.{Operanded};
-use numbers::parse::Number;
+use crate::write_operand::Fitted;
 
 // Operands that were written: the next position; or the one that doesn't fit, from 1.
 pub enum Wrote {
@@ -26,7 +26,7 @@ pub fn encode_operands(row: [u8; 8], words: &[u64], at: usize, out: &mut [u8], f
         }
         let p = at + 4 + 2 * i;
         let v = crate::write_operand::encode_number(c, words[p], words[p + 1]);
-        let Number::Is(n) = v else {
+        let Fitted::Bits(n) = v else {
             return Wrote::Misfit(i + 1);
         };
         k = numbers::io::put_le(out, k, sheet::operand_types::width(c), n);

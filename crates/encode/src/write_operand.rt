@@ -5,10 +5,14 @@ ghost use Prim.Native.Nat.{_^_};
 ghost use lib.Dec.{ltb};
 ghost use Rattle.spec_numbers.specs.TwosComplement.{extend8};
 ghost use Rattle.spec_body.specs.Encode.{encodeUnsigned, encodeAddr8, encodeSigned32, encodeDouble, encodeOperand};
-ghost use Rattle.numbers.specs.Answers.{numberOf};
-ghost use Rattle.encode.specs.Value.{encodeValue};
+ghost use Rattle.encode.specs.Value.{encodeValue, fittedOf};
 use decode::operand_value::OperandValue;
-use numbers::parse::Number;
+
+// The number of an operand, or that the value does not fit its type.
+pub enum Fitted {
+    Bits(u64),
+    NoFit,
+}
 
 // Whether a number has at most w bytes. Division keeps clear of powers, which a u64 does not hold.
 pub fn fits_in(w: usize, bits: u64) -> bool
@@ -24,38 +28,38 @@ pub fn fits_in(w: usize, bits: u64) -> bool
 }
 
 // Into a register, a number or a string id.
-fn encode_unsigned(code: u8, kind: u64, bits: u64) -> Number
-    ensures { λ r. ⌜ r ≡ numberOf (encodeUnsigned code kind bits) ⌝ }
+fn encode_unsigned(code: u8, kind: u64, bits: u64) -> Fitted
+    ensures { λ r. ⌜ r ≡ fittedOf (encodeUnsigned code kind bits) ⌝ }
 {
     if 2 < kind {
-        return Number::Bad;
+        return Fitted::NoFit;
     }
     if fits_in(sheet::operand_types::width(code), bits) {
-        return Number::Is(bits);
+        return Fitted::Bits(bits);
     }
-    Number::Bad
+    Fitted::NoFit
 }
 
 // Into Addr8.
-fn encode_addr8(kind: u64, bits: u64) -> Number
-    ensures { λ r. ⌜ r ≡ numberOf (encodeAddr8 kind bits) ⌝ }
+fn encode_addr8(kind: u64, bits: u64) -> Fitted
+    ensures { λ r. ⌜ r ≡ fittedOf (encodeAddr8 kind bits) ⌝ }
 {
     if kind == 3 {
-        return Number::Is(bits);
+        return Fitted::Bits(bits);
     }
     if kind == 0 {
-        return Number::Is(bits);
+        return Fitted::Bits(bits);
     }
     if kind != 4 {
-        return Number::Bad;
+        return Fitted::NoFit;
     }
     if bits < 128 {
-        return Number::Is(bits % 256);
+        return Fitted::Bits(bits % 256);
     }
     if 0xffff_ff80 <= bits {
-        return Number::Is(bits % 256);
+        return Fitted::Bits(bits % 256);
     }
-    Number::Bad
+    Fitted::NoFit
 }
 
 // A signed byte with 32 bits. What is no byte, and so in no record that is taken, has them all set, as the definition
@@ -70,31 +74,31 @@ fn extend_bits(bits: u64) -> u64
 }
 
 // Into Addr32 and Imm32.
-fn encode_signed32(kind: u64, bits: u64) -> Number
-    ensures { λ r. ⌜ r ≡ numberOf (encodeSigned32 kind bits) ⌝ }
+fn encode_signed32(kind: u64, bits: u64) -> Fitted
+    ensures { λ r. ⌜ r ≡ fittedOf (encodeSigned32 kind bits) ⌝ }
 {
     if kind == 3 {
-        return Number::Is(extend_bits(bits));
+        return Fitted::Bits(extend_bits(bits));
     }
     if kind <= 4 {
-        return Number::Is(bits);
+        return Fitted::Bits(bits);
     }
-    Number::Bad
+    Fitted::NoFit
 }
 
 // Into Double.
-fn encode_double(kind: u64, bits: u64) -> Number
-    ensures { λ r. ⌜ r ≡ numberOf (encodeDouble kind bits) ⌝ }
+fn encode_double(kind: u64, bits: u64) -> Fitted
+    ensures { λ r. ⌜ r ≡ fittedOf (encodeDouble kind bits) ⌝ }
 {
     if kind == 5 {
-        return Number::Is(bits);
+        return Fitted::Bits(bits);
     }
-    Number::Bad
+    Fitted::NoFit
 }
 
 // The number of an operand of a type, from a value's kind and bits.
-pub fn encode_number(code: u8, kind: u64, bits: u64) -> Number
-    ensures { λ r. ⌜ r ≡ numberOf (encodeOperand code kind bits) ⌝ }
+pub fn encode_number(code: u8, kind: u64, bits: u64) -> Fitted
+    ensures { λ r. ⌜ r ≡ fittedOf (encodeOperand code kind bits) ⌝ }
 {
     if sheet::operand_types::family(code) <= 3 {
         return encode_unsigned(code, kind, bits);
@@ -109,8 +113,8 @@ pub fn encode_number(code: u8, kind: u64, bits: u64) -> Number
 }
 
 // The same from the value itself. A double's bits come beside it, since an f64 keeps no NaN's payload.
-pub fn write_operand(code: u8, v: OperandValue, bits: u64) -> Number
-    ensures { λ r. ⌜ r ≡ numberOf (encodeValue code v bits) ⌝ }
+pub fn write_operand(code: u8, v: OperandValue, bits: u64) -> Fitted
+    ensures { λ r. ⌜ r ≡ fittedOf (encodeValue code v bits) ⌝ }
 {
     match v {
         OperandValue::U8(x) => encode_number(code, 0, x as u64),

@@ -10,8 +10,8 @@ use borrow.Author.Tests.{eq-eqb, ne-eqb, lt-ltb, le-ltb}
 use Rattle.lists.specs.Choice.{both}
 use Rattle.lists.proofs.Tests.{by-test, by-leb, by-eqb, both-left, both-right}
 use Rattle.spec_numbers.specs.LittleEndian.{leBytes}
-use Rattle.spec_numbers.specs.Parse.{Parsed}
-use Rattle.spec_numbers.specs.Parse.Parsed.{is, bad}
+use Rattle.spec_body.specs.Encode.{Fitted}
+use Rattle.spec_body.specs.Encode.Fitted.{fits, noFit}
 use Rattle.spec_sheet.specs.Types.{widthOf}
 use Rattle.spec_body.specs.Record.{countOf, recordWords}
 use Rattle.spec_body.specs.Encode.{goodPair, goodPairs, goodShape, encodeOperand, Operands, prependBytes, operandBytes, encodeOperands, Encoded, appendTo, withOperands, encodeRecord, encodeFrom, encodeRecords}
@@ -39,12 +39,12 @@ module _ (cs words : List ℕ) (n : ℕ) where
   unfolding encodeOperands
   operands-end = refl
 
-  pub operands-more : (c v : ℕ) → 0 < c → encodeOperand c (getD words 0 0) (getD words 1 0) ≡ is v
+  pub operands-more : (c v : ℕ) → 0 < c → encodeOperand c (getD words 0 0) (getD words 1 0) ≡ fits v
       → encodeOperands (c ∷ cs) words n ≡ prependBytes (leBytes (widthOf c) v) (encodeOperands cs (drop 2 words) (n + 1))
   unfolding encodeOperands operandBytes
   operands-more c v h e = rw (encodeOperands, no-zero c h, e)
 
-  pub operands-misfit : (c : ℕ) → 0 < c → encodeOperand c (getD words 0 0) (getD words 1 0) ≡ bad → encodeOperands (c ∷ cs) words n ≡ misfit n
+  pub operands-misfit : (c : ℕ) → 0 < c → encodeOperand c (getD words 0 0) (getD words 1 0) ≡ noFit → encodeOperands (c ∷ cs) words n ≡ misfit n
   unfolding encodeOperands operandBytes
   operands-misfit c h e = rw (encodeOperands, no-zero c h, e)
 
@@ -60,13 +60,13 @@ prepended-bytes b (bytes ms) os e then = then ms refl (cc e)
 prepended-bytes b (misfit n) os e then = absurd (let z : _≡_ {A = ℕ} 0 1 = cc e in omega arith)
 
 pub operand-then : {P : Type 0} (cs words : List ℕ) (k c : ℕ) (os : List ℕ) → 0 < c → encodeOperands (c ∷ cs) words k ≡ bytes os
-    → ((v : ℕ) (ms : List ℕ) → encodeOperand c (getD words 0 0) (getD words 1 0) ≡ is v → encodeOperands cs (drop 2 words) (k + 1) ≡ bytes ms → leBytes (widthOf c) v ++ ms ≡ os → P)
+    → ((v : ℕ) (ms : List ℕ) → encodeOperand c (getD words 0 0) (getD words 1 0) ≡ fits v → encodeOperands cs (drop 2 words) (k + 1) ≡ bytes ms → leBytes (widthOf c) v ++ ms ≡ os → P)
     → P
 operand-then {P} cs words k c os h e then = go (encodeOperand c (getD words 0 0) (getD words 1 0)) refl
   where
-    go : (p : Parsed) → encodeOperand c (getD words 0 0) (getD words 1 0) ≡ p → P
-    go (is v) w = prepended-bytes (leBytes (widthOf c) v) _ os (sym (operands-more cs words k c v h w) ∙ e) (λ ms x y. then v ms w x y)
-    go bad w = absurd (let z : _≡_ {A = ℕ} 0 1 = cc (sym (operands-misfit cs words k c h w) ∙ e) in omega arith)
+    go : (p : Fitted) → encodeOperand c (getD words 0 0) (getD words 1 0) ≡ p → P
+    go (fits v) w = prepended-bytes (leBytes (widthOf c) v) _ os (sym (operands-more cs words k c v h w) ∙ e) (λ ms x y. then v ms w x y)
+    go noFit w = absurd (let z : _≡_ {A = ℕ} 0 1 = cc (sym (operands-misfit cs words k c h w) ∙ e) in omega arith)
 
 -- one record: its shape is bad, its opcode is beyond the largest, its count is wrong, or it comes down to its operands
 module _ (types : List (List ℕ)) (last i : ℕ) (r : List ℕ) (rest : Encoded) where

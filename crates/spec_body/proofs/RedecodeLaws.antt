@@ -13,7 +13,7 @@ use Rattle.lists.specs.Choice.{both}
 use Rattle.lists.specs.Scan.{Bytes, part}
 use Rattle.lists.proofs.Tests.{both-left, both-right}
 use Rattle.spec_numbers.specs.LittleEndian.{le, leBytes}
-use Rattle.spec_numbers.specs.Parse.Parsed.{is}
+use Rattle.spec_body.specs.Encode.Fitted.{fits}
 use Rattle.spec_numbers.proofs.ByteLaws.{le-leBytes, length-leBytes}
 use Rattle.spec_sheet.specs.Types.{widthOf, kindOf}
 use Rattle.spec_sheet.proofs.OpLaws.{TypeCodes}
@@ -36,7 +36,7 @@ use Rattle.spec_body.proofs.ReencodeLaws.{reencoded}
 -- operands that were written, each in its type's bytes
 pub data Written : List ℕ → List ℕ → List ℕ → Type 0 where
   no-operand : {words : List ℕ} → Written [] words []
-  an-operand : {c v : ℕ} {cs words os : List ℕ} → 0 < c → encodeOperand c (getD words 0 0) (getD words 1 0) ≡ is v → v < 256 ^ widthOf c
+  an-operand : {c v : ℕ} {cs words os : List ℕ} → 0 < c → encodeOperand c (getD words 0 0) (getD words 1 0) ≡ fits v → v < 256 ^ widthOf c
       → Written cs (drop 2 words) os → Written (c ∷ cs) words (leBytes (widthOf c) v ++ os)
 
 operands-written : {cs : List ℕ} → TypeCodes cs → (m n k : ℕ) (words os : List ℕ) → m ≡ length cs + n → goodPairs m (length cs) words ≡ true

@@ -9,9 +9,9 @@ use borrow.Author.Tests.{lt-ltb, le-ltb, ltb-true, leb-true}
 use Rattle.lists.specs.Choice.{pick, both, either}
 use Rattle.lists.proofs.Tests.{by-test}
 use Rattle.spec_numbers.specs.TwosComplement.{signed, extend8}
-use Rattle.spec_numbers.specs.Parse.Parsed.{is, bad}
+use Rattle.spec_body.specs.Encode.Fitted.{fits, noFit}
 use Rattle.spec_numbers.proofs.SignedLaws.{signed-unsigned, signed-bound}
-use Rattle.spec_numbers.proofs.WholeLaws.{bad-not-is, same-is}
+use Rattle.spec_body.proofs.OperandLaws.{no-fit-not, same-fits}
 use Rattle.spec_sheet.specs.Types.{widthOf, familyOf}
 use Rattle.spec_body.specs.Encode.{encodeUnsigned, encodeAddr8, encodeSigned32, encodeDouble, encodeOperand}
 use Rattle.spec_body.proofs.OperandLaws.{by-class, by-choice}
@@ -36,54 +36,54 @@ narrow-number bits h t =
 
 -- so an I8 and an I32 are written as the number that they are, into whatever takes them
 module _ (bits v : ℕ) where
-  unsigned-kind : (kind c : ℕ) {P : Type 0} → leb kind 2 ≡ false → leb (familyOf c) 3 ≡ true → encodeOperand c kind bits ≡ is v → P
+  unsigned-kind : (kind c : ℕ) {P : Type 0} → leb kind 2 ≡ false → leb (familyOf c) 3 ≡ true → encodeOperand c kind bits ≡ fits v → P
   unfolding encodeOperand encodeUnsigned
-  unsigned-kind kind c k f e = bad-not-is (rw (f, k) at e)
+  unsigned-kind kind c k f e = no-fit-not (rw (f, k) at e)
 
-  pub i8-number : bits < 256 → (c : ℕ) → 0 < c → c ≤ 12 → encodeOperand c 3 bits ≡ is v → signed (8 * widthOf c) v ≡ signed 8 bits
+  pub i8-number : bits < 256 → (c : ℕ) → 0 < c → c ≤ 12 → encodeOperand c 3 bits ≡ fits v → signed (8 * widthOf c) v ≡ signed 8 bits
   unfolding encodeOperand encodeAddr8 encodeSigned32 encodeDouble familyOf widthOf
   i8-number h =
-      by-class (λ c. encodeOperand c 3 bits ≡ is v → signed (8 * widthOf c) v ≡ signed 8 bits) (λ c f k. unsigned-kind 3 c refl f)
-      (λ e. ap (signed 8) (sym (same-is e))) wide wide bad-not-is
+      by-class (λ c. encodeOperand c 3 bits ≡ fits v → signed (8 * widthOf c) v ≡ signed 8 bits) (λ c f k. unsigned-kind 3 c refl f)
+      (λ e. ap (signed 8) (sym (same-fits e))) wide wide no-fit-not
     where
-      wide : is (extend8 bits) ≡ is v → signed 32 v ≡ signed 8 bits
-      wide e = ap (signed 32) (sym (same-is e)) ∙ extend-number bits h
+      wide : fits (extend8 bits) ≡ fits v → signed 32 v ≡ signed 8 bits
+      wide e = ap (signed 32) (sym (same-fits e)) ∙ extend-number bits h
 
-  pub i32-number : bits < 2 ^ 32 → (c : ℕ) → 0 < c → c ≤ 12 → encodeOperand c 4 bits ≡ is v → signed (8 * widthOf c) v ≡ signed 32 bits
+  pub i32-number : bits < 2 ^ 32 → (c : ℕ) → 0 < c → c ≤ 12 → encodeOperand c 4 bits ≡ fits v → signed (8 * widthOf c) v ≡ signed 32 bits
   unfolding encodeOperand encodeAddr8 encodeSigned32 encodeDouble familyOf widthOf
   i32-number h =
-      by-class (λ c. encodeOperand c 4 bits ≡ is v → signed (8 * widthOf c) v ≡ signed 32 bits) (λ c f k. unsigned-kind 4 c refl f) near wide wide bad-not-is
+      by-class (λ c. encodeOperand c 4 bits ≡ fits v → signed (8 * widthOf c) v ≡ signed 32 bits) (λ c f k. unsigned-kind 4 c refl f) near wide wide no-fit-not
     where
-      near : pick (either (ltb bits 128) (leb (2 ^ 32 - 128) bits)) (is (bits % 256)) bad ≡ is v → signed 8 v ≡ signed 32 bits
+      near : pick (either (ltb bits 128) (leb (2 ^ 32 - 128) bits)) (fits (bits % 256)) noFit ≡ fits v → signed 8 v ≡ signed 32 bits
       near e =
-          by-choice (either (ltb bits 128) (leb (2 ^ 32 - 128) bits)) (is (bits % 256)) bad e
-          (λ t r. ap (signed 8) (sym (same-is r)) ∙ narrow-number bits h t) (λ t r. bad-not-is r)
+          by-choice (either (ltb bits 128) (leb (2 ^ 32 - 128) bits)) (fits (bits % 256)) noFit e
+          (λ t r. ap (signed 8) (sym (same-fits r)) ∙ narrow-number bits h t) (λ t r. no-fit-not r)
 
-      wide : is bits ≡ is v → signed 32 v ≡ signed 32 bits
-      wide e = ap (signed 32) (sym (same-is e))
+      wide : fits bits ≡ fits v → signed 32 v ≡ signed 32 bits
+      wide e = ap (signed 32) (sym (same-fits e))
 
 -- and what is neither is written by its bits
 module _ (kind bits v : ℕ) (a : eqb kind 3 ≡ false) (b : eqb kind 4 ≡ false) where
-  as-is : (t : Bool) → pick t (is bits) bad ≡ is v → v ≡ bits
-  as-is true e = sym (same-is e)
-  as-is false e = bad-not-is e
+  as-is : (t : Bool) → pick t (fits bits) noFit ≡ fits v → v ≡ bits
+  as-is true e = sym (same-fits e)
+  as-is false e = no-fit-not e
 
-  bits-unsigned : (c : ℕ) → leb (familyOf c) 3 ≡ true → encodeOperand c kind bits ≡ is v → v ≡ bits
+  bits-unsigned : (c : ℕ) → leb (familyOf c) 3 ≡ true → encodeOperand c kind bits ≡ fits v → v ≡ bits
   unfolding encodeOperand encodeUnsigned
   bits-unsigned c f e = as-is (both (leb kind 2) (ltb bits (256 ^ widthOf c))) (rw f at e)
 
-  bits-addr8 : encodeAddr8 kind bits ≡ is v → v ≡ bits
+  bits-addr8 : encodeAddr8 kind bits ≡ fits v → v ≡ bits
   unfolding encodeAddr8
   bits-addr8 e = as-is (eqb kind 0) (rw (a, b) at e)
 
-  bits-signed32 : encodeSigned32 kind bits ≡ is v → v ≡ bits
+  bits-signed32 : encodeSigned32 kind bits ≡ fits v → v ≡ bits
   unfolding encodeSigned32
   bits-signed32 e = as-is (leb kind 4) (rw a at e)
 
-  bits-double : encodeDouble kind bits ≡ is v → v ≡ bits
+  bits-double : encodeDouble kind bits ≡ fits v → v ≡ bits
   unfolding encodeDouble
   bits-double e = as-is (eqb kind 5) e
 
-  pub other-bits : (c : ℕ) → 0 < c → c ≤ 12 → encodeOperand c kind bits ≡ is v → v ≡ bits
+  pub other-bits : (c : ℕ) → 0 < c → c ≤ 12 → encodeOperand c kind bits ≡ fits v → v ≡ bits
   unfolding encodeOperand familyOf
-  other-bits = by-class (λ c. encodeOperand c kind bits ≡ is v → v ≡ bits) (λ c f k. bits-unsigned c f) bits-addr8 bits-signed32 bits-signed32 bits-double
+  other-bits = by-class (λ c. encodeOperand c kind bits ≡ fits v → v ≡ bits) (λ c f k. bits-unsigned c f) bits-addr8 bits-signed32 bits-signed32 bits-double

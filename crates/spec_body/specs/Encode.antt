@@ -7,8 +7,6 @@ use lib.ListN.{length, take, drop, getD}
 use Rattle.lists.specs.Choice.{pick, both, either}
 use Rattle.spec_numbers.specs.LittleEndian.{leBytes}
 use Rattle.spec_numbers.specs.TwosComplement.{extend8}
-use Rattle.spec_numbers.specs.Parse.{Parsed}
-use Rattle.spec_numbers.specs.Parse.Parsed.{is, bad}
 use Rattle.spec_sheet.specs.Types.{widthOf, familyOf, stringFamily, addr8, double}
 use Rattle.spec_body.specs.Record.{countOf, opcodeOf, operandsOf, pairsOf, recordWords}
 
@@ -31,26 +29,31 @@ goodPairs (suc n) count words =
 unfoldable pub goodShape : List ℕ → Bool
 goodShape r = both (leb (operandsOf r) 8) (goodPairs 8 (operandsOf r) (pairsOf r))
 
--- `write_operand`: the little-endian number of an operand of a type, from a value's kind and bits, or that it doesn't fit.
+-- an operand's little-endian number, or that the value doesn't fit its type
+pub data Fitted : Type 0 where
+  fits : ℕ → Fitted
+  noFit : Fitted
+
+-- `write_operand`: the number of an operand of a type, from a value's kind and bits.
 -- An unsigned value goes into a register, number or string id that is wide enough
-unfoldable pub encodeUnsigned : ℕ → ℕ → ℕ → Parsed
-encodeUnsigned code kind bits = pick (both (leb kind 2) (ltb bits (256 ^ widthOf code))) (is bits) bad
+unfoldable pub encodeUnsigned : ℕ → ℕ → ℕ → Fitted
+encodeUnsigned code kind bits = pick (both (leb kind 2) (ltb bits (256 ^ widthOf code))) (fits bits) noFit
 
 -- into Addr8: an I8, an I32 from -128 to 127, a U8 "by its bits"
-unfoldable pub encodeAddr8 : ℕ → ℕ → Parsed
+unfoldable pub encodeAddr8 : ℕ → ℕ → Fitted
 encodeAddr8 kind bits =
-    pick (either (eqb kind 3) (eqb kind 0)) (is bits)
-    (pick (both (eqb kind 4) (either (ltb bits 128) (leb (2 ^ 32 - 128) bits))) (is (bits % 256)) bad)
+    pick (either (eqb kind 3) (eqb kind 0)) (fits bits)
+    (pick (both (eqb kind 4) (either (ltb bits 128) (leb (2 ^ 32 - 128) bits))) (fits (bits % 256)) noFit)
 
 -- into Addr32 and Imm32: an I32, an I8 with its sign, any unsigned value by its bits
-unfoldable pub encodeSigned32 : ℕ → ℕ → Parsed
-encodeSigned32 kind bits = pick (eqb kind 3) (is (extend8 bits)) (pick (leb kind 4) (is bits) bad)
+unfoldable pub encodeSigned32 : ℕ → ℕ → Fitted
+encodeSigned32 kind bits = pick (eqb kind 3) (fits (extend8 bits)) (pick (leb kind 4) (fits bits) noFit)
 
 -- into Double: an F64
-unfoldable pub encodeDouble : ℕ → ℕ → Parsed
-encodeDouble kind bits = pick (eqb kind 5) (is bits) bad
+unfoldable pub encodeDouble : ℕ → ℕ → Fitted
+encodeDouble kind bits = pick (eqb kind 5) (fits bits) noFit
 
-unfoldable pub encodeOperand : ℕ → ℕ → ℕ → Parsed
+unfoldable pub encodeOperand : ℕ → ℕ → ℕ → Fitted
 encodeOperand code kind bits =
     pick (leb (familyOf code) stringFamily) (encodeUnsigned code kind bits)
     (pick (eqb code addr8) (encodeAddr8 kind bits)
@@ -65,9 +68,9 @@ unfoldable pub prependBytes : List ℕ → Operands → Operands
 prependBytes b (bytes bs) = bytes (b ++ bs)
 prependBytes b (misfit n) = misfit n
 
-unfoldable pub operandBytes : ℕ → Parsed → Operands → ℕ → Operands
-operandBytes width (is v) rest n = prependBytes (leBytes width v) rest
-operandBytes width bad rest n = misfit n
+unfoldable pub operandBytes : ℕ → Fitted → Operands → ℕ → Operands
+operandBytes width (fits v) rest n = prependBytes (leBytes width v) rest
+operandBytes width noFit rest n = misfit n
 
 -- the operands of a row of type codes, whose pairs are `words`, the first counted as n
 unfoldable pub encodeOperands : List ℕ → List ℕ → ℕ → Operands

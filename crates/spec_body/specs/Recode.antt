@@ -4,16 +4,16 @@ use Prim.Native.Nat.{ℕ, zero, suc, _+_, _/_}
 use lib.Dec.{eqb}
 use lib.ListN.{length, take, drop, getD}
 use Rattle.lists.specs.Choice.{pick}
-use Rattle.spec_numbers.specs.Parse.{Parsed}
-use Rattle.spec_numbers.specs.Parse.Parsed.{is, bad}
+use Rattle.spec_body.specs.Encode.{Fitted}
+use Rattle.spec_body.specs.Encode.Fitted.{fits, noFit}
 use Rattle.spec_sheet.specs.Types.{kindOf}
 use Rattle.spec_body.specs.Record.{lengthOf, recordWords, opcodeOf, operandsOf, pairsOf}
 use Rattle.spec_body.specs.Encode.{encodeOperand}
 
 -- the number that an operand was written as
-unfoldable pub writtenNumber : Parsed → ℕ
-writtenNumber (is v) = v
-writtenNumber bad = 0
+unfoldable pub writtenNumber : Fitted → ℕ
+writtenNumber (fits v) = v
+writtenNumber noFit = 0
 
 -- the bits of an operand of a type that was written from a kind and bits; 0 for no operand
 unfoldable pub writtenBits : ℕ → ℕ → ℕ → ℕ

@@ -1,5 +1,5 @@
 use Rattle.encode.proofs.OperandsLoop.{Going, start, ended, stops, refuses, turn}
-use Rattle.numbers.proofs.AnswerLaws.{number-is, number-bad}
+use Rattle.encode.proofs.OperandLaws.{fitted-bits, fitted-misfit}
 use Rattle.lists.proofs.Writes.{kept-length}
 use lib.ListN.{length}
 use Prim.Native.Nat.{_-_}
@@ -77,7 +77,7 @@ returns-2 c =
     let l = c .before .before .before .before .before .before .before .loop in
     let a = c .before .before .before .before .before .before .before .before .before .before .args in
     let h : length (a .t1) ≡ 8 = search needs in
-    refuses (a .t1) _ _ _ _ _ _ _ (l .inv) (omega arith) (c .before .before .before .before .before .before .loop-test .taken) (c .before .before .before .before .before .if1 .left) _ refl _ (number-bad _ (sym (c .before .before .encode-number .ensures) ∙ c .enum-told .given .1))
+    refuses (a .t1) _ _ _ _ _ _ _ (l .inv) (omega arith) (c .before .before .before .before .before .before .loop-test .taken) (c .before .before .before .before .before .if1 .left) _ refl _ (fitted-misfit _ (sym (c .before .before .encode-number .ensures) ∙ c .enum-told .given .1))
 
 width-requires : tie.Need-width-requires Inv-loop μ-loop
 width-requires c κs = search needs
@@ -97,7 +97,7 @@ loop-again c =
     let a = c .before .before .before .before .before .before .before .before .before .before .before .before .before .before .before .before .args in
     let h : length (a .t1) ≡ 8 = search needs in
     turn (a .t1) _ _ _ _ _ _ _ (l .inv) (omega arith) (c .before .before .before .before .before .before .before .before .before .before .before .before .loop-test .taken) (c .before .before .before .before .before .before .before .before .before .before .before .if1 .left) _ refl _ _ _ _
-    (number-is _ _ (sym (c .before .before .before .before .before .before .before .before .encode-number .ensures) ∙ c .before .before .before .before .before .before .v .given .1)) (c .before .before .before .width .ensures) (c .before .before .put-le .ensures)
+    (fitted-bits _ _ (sym (c .before .before .before .before .before .before .before .before .encode-number .ensures) ∙ c .before .before .before .before .before .before .v .given .1)) (c .before .before .before .width .ensures) (c .before .before .put-le .ensures)
 
 same-length-3 : tie.Need-same-length-3 Inv-loop μ-loop
 same-length-3 c = kept-length (c .before .loop .inv .wrote)

@@ -1,4 +1,4 @@
-use Rattle.numbers.specs.declared.parse.Number.the-variants.{Is}
+use Rattle.encode.specs.declared.write_operand.Fitted.the-variants.{Bits}
 use mathlib.Core.Path.{ap}
 use borrow.Author.Tests.{ne-eqb, le-leb, lt-leb}
 use Rattle.spec_body.specs.Encode.{encodeSigned32}
@@ -11,7 +11,7 @@ extend-bits-requires c κs = search needs
 
 returns : tie.Need-returns
 unfolding encodeSigned32
-returns c = rw (c .before .if1 .taken) (ap Is (c .extend-bits .ensures))
+returns c = rw (c .before .if1 .taken) (ap Bits (c .extend-bits .ensures))
 
 returns-2 : tie.Need-returns-2
 unfolding encodeSigned32

@@ -7,12 +7,13 @@ ghost use Rattle.spec_body.specs.Operation as operation;
 ghost use Rattle.spec_answers.specs.Outcome.{report, exitOf};
 ghost use Rattle.operation.specs.Numbers.{numbersOf};
 ghost use Rattle.spec_listing.specs.Operation as listing;
-ghost use Rattle.listing.specs.Parts.{optionsOf};
+ghost use Rattle.listing.specs.Parts.{optionsFrom};
 ghost use Rattle.listing.specs.Functions.{areaOf};
 ghost use Rattle.spec_hasm.specs.Operation as hasm;
 use decode::answer::decode_numbers;
 use encode::answer::encode_numbers;
 use hasm_labels::label_entry::Slot;
+use listing::options::Options;
 use operation::ending::Numbers;
 
 // Decodes a body under the sheet `text` into records of 20 words.
@@ -62,14 +63,17 @@ pub extern "C" fn desk_list(
     out: &mut [u8],
     entries: &mut [u32],
 ) -> Numbers
-    ensures { λ r. ⌜ r ≡ numbersOf (report (listing.list (optionsOf offsets labels texts) (now (sheet .entry)) (now (bytes .entry)) (now (ends .entry)) (now (body .entry)) (length (now (entries .entry)))) (length (now (out .entry)))) ⌝ }
-    ensures { λ _. ⌜ now (out .exit) ≡ exitOf (listing.list (optionsOf offsets labels texts) (now (sheet .entry)) (now (bytes .entry)) (now (ends .entry)) (now (body .entry)) (length (now (entries .entry)))) (now (out .entry)) ⌝ }
+    ensures { λ r. ⌜ r ≡ numbersOf (report (listing.list (optionsFrom offsets labels texts) (now (sheet .entry)) (now (bytes .entry)) (now (ends .entry)) (now (body .entry)) (length (now (entries .entry)))) (length (now (out .entry)))) ⌝ }
+    ensures { λ _. ⌜ now (out .exit) ≡ exitOf (listing.list (optionsFrom offsets labels texts) (now (sheet .entry)) (now (bytes .entry)) (now (ends .entry)) (now (body .entry)) (length (now (entries .entry)))) (now (out .entry)) ⌝ }
     ensures { λ _. ⌜ now (entries .exit) ≡ replicate (length (now (entries .entry))) 0 ⌝ }
 {
+    let options = Options {
+        show_offsets: offsets,
+        show_labels: labels,
+        resolve_strings: texts,
+    };
     listing::answer::list_numbers(listing::list::list(
-        offsets,
-        labels,
-        texts,
+        options,
         sheet,
         bytes,
         ends,
@@ -95,14 +99,17 @@ pub extern "C" fn desk_list_function(
     out: &mut [u8],
     entries: &mut [u32],
 ) -> Numbers
-    ensures { λ r. ⌜ r ≡ numbersOf (report (listing.listFunction (optionsOf offsets labels texts) (now (sheet .entry)) (now (bytes .entry)) (now (ends .entry)) (areaOf (now (functions .entry)) (now (area .entry)) base) id (length (now (entries .entry)))) (length (now (out .entry)))) ⌝ }
-    ensures { λ _. ⌜ now (out .exit) ≡ exitOf (listing.listFunction (optionsOf offsets labels texts) (now (sheet .entry)) (now (bytes .entry)) (now (ends .entry)) (areaOf (now (functions .entry)) (now (area .entry)) base) id (length (now (entries .entry)))) (now (out .entry)) ⌝ }
+    ensures { λ r. ⌜ r ≡ numbersOf (report (listing.listFunction (optionsFrom offsets labels texts) (now (sheet .entry)) (now (bytes .entry)) (now (ends .entry)) (areaOf (now (functions .entry)) (now (area .entry)) base) id (length (now (entries .entry)))) (length (now (out .entry)))) ⌝ }
+    ensures { λ _. ⌜ now (out .exit) ≡ exitOf (listing.listFunction (optionsFrom offsets labels texts) (now (sheet .entry)) (now (bytes .entry)) (now (ends .entry)) (areaOf (now (functions .entry)) (now (area .entry)) base) id (length (now (entries .entry)))) (now (out .entry)) ⌝ }
     ensures { λ _. ⌜ now (entries .exit) ≡ replicate (length (now (entries .entry))) 0 ⌝ }
 {
+    let options = Options {
+        show_offsets: offsets,
+        show_labels: labels,
+        resolve_strings: texts,
+    };
     listing::answer::list_numbers(listing::list_function::list_function(
-        offsets,
-        labels,
-        texts,
+        options,
         sheet,
         bytes,
         ends,
@@ -130,14 +137,17 @@ pub extern "C" fn desk_list_module(
     out: &mut [u8],
     entries: &mut [u32],
 ) -> Numbers
-    ensures { λ r. ⌜ r ≡ numbersOf (report (listing.listModule (optionsOf offsets labels texts) (now (sheet .entry)) (now (bytes .entry)) (now (ends .entry)) (areaOf (now (functions .entry)) (now (area .entry)) base) (length (now (entries .entry)))) (length (now (out .entry)))) ⌝ }
-    ensures { λ _. ⌜ now (out .exit) ≡ exitOf (listing.listModule (optionsOf offsets labels texts) (now (sheet .entry)) (now (bytes .entry)) (now (ends .entry)) (areaOf (now (functions .entry)) (now (area .entry)) base) (length (now (entries .entry)))) (now (out .entry)) ⌝ }
+    ensures { λ r. ⌜ r ≡ numbersOf (report (listing.listModule (optionsFrom offsets labels texts) (now (sheet .entry)) (now (bytes .entry)) (now (ends .entry)) (areaOf (now (functions .entry)) (now (area .entry)) base) (length (now (entries .entry)))) (length (now (out .entry)))) ⌝ }
+    ensures { λ _. ⌜ now (out .exit) ≡ exitOf (listing.listModule (optionsFrom offsets labels texts) (now (sheet .entry)) (now (bytes .entry)) (now (ends .entry)) (areaOf (now (functions .entry)) (now (area .entry)) base) (length (now (entries .entry)))) (now (out .entry)) ⌝ }
     ensures { λ _. ⌜ now (entries .exit) ≡ replicate (length (now (entries .entry))) 0 ⌝ }
 {
+    let options = Options {
+        show_offsets: offsets,
+        show_labels: labels,
+        resolve_strings: texts,
+    };
     listing::answer::list_numbers(list_module::module::list_module(
-        offsets,
-        labels,
-        texts,
+        options,
         sheet,
         bytes,
         ends,

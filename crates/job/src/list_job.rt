@@ -15,6 +15,7 @@ ghost use Rattle.job.specs.Prints.{Prints, Told};
 use crate::printed::refused;
 use job_read::reader::BodyAnswer;
 use listing::answer::ListAnswer;
+use listing::options::Options;
 use operation::inputs::Inputs;
 use slices::write::clear;
 
@@ -53,10 +54,13 @@ fn list_inputs(
         clear(out);
         return listing::list::refused_inputs(i);
     };
+    let options = Options {
+        show_offsets: true,
+        show_labels: true,
+        resolve_strings: true,
+    };
     listing::list::list_under(
-        true,
-        true,
-        true,
+        options,
         job,
         types,
         ops,

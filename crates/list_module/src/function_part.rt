@@ -13,6 +13,7 @@ ghost use Rattle.spec_listing.specs.Module.{listFunctionIn};
 ghost use Rattle.listing.specs.Functions.{areaOf};
 ghost use Rattle.list_module.specs.Modules.{PartWritten, titled};
 use listing::body::Part;
+use listing::options::Options;
 use operation::area::wide;
 use slices::write::put_byte;
 
@@ -44,9 +45,7 @@ fn end_part(p: Part, out: &mut [u8]) -> FunctionPart
 
 // Lists the body s under its banner. `from` is small, so that the banner's length is known from the two positions.
 fn list_titled(
-    offsets: bool,
-    labels: bool,
-    texts: bool,
+    options: Options,
     sheet: &[u8],
     types: &[[u8; 8]; 256],
     ops: &[[usize; 4]; 256],
@@ -60,7 +59,7 @@ fn list_titled(
     from: usize,
 ) -> FunctionPart
     requires { ⌜ (length (now s) ≤ bodyLimit) × («from» ≤ listingLimit + 1) ⌝ }
-    ensures { λ r. ⌜ PartWritten (titled (optionsOf offsets labels texts) (contextFrom (now (sheet .entry)) (now (types .entry)) (now (ops .entry)) (now (bytes .entry)) (now (ends .entry))) last id name (now (s .entry))) (now (out .entry)) «from» (now (out .exit)) r ⌝ }
+    ensures { λ r. ⌜ PartWritten (titled (optionsOf options) (contextFrom (now (sheet .entry)) (now (types .entry)) (now (ops .entry)) (now (bytes .entry)) (now (ends .entry))) last id name (now (s .entry))) (now (out .entry)) «from» (now (out .exit)) r ⌝ }
 {
     let a = crate::banner::put_title(out, from, id, bytes, ends, name);
     if limits::LINE_LIMIT < a - from {
@@ -68,9 +67,7 @@ fn list_titled(
     }
     let b = put_byte(out, a, 10);
     let p = listing::body::list_body(
-        offsets,
-        labels,
-        texts,
+        options,
         sheet,
         types,
         ops,
@@ -87,9 +84,7 @@ fn list_titled(
 
 // Lists one function of an area at position `from`.
 pub fn list_function_in(
-    offsets: bool,
-    labels: bool,
-    texts: bool,
+    options: Options,
     sheet: &[u8],
     types: &[[u8; 8]; 256],
     ops: &[[usize; 4]; 256],
@@ -104,7 +99,7 @@ pub fn list_function_in(
     from: usize,
 ) -> FunctionPart
     requires { ⌜ «from» ≤ listingLimit + 1 ⌝ }
-    ensures { λ r. ⌜ PartWritten (listFunctionIn (optionsOf offsets labels texts) (contextFrom (now (sheet .entry)) (now (types .entry)) (now (ops .entry)) (now (bytes .entry)) (now (ends .entry))) last (areaOf (now (functions .entry)) (now (area .entry)) base) id) (now (out .entry)) «from» (now (out .exit)) r ⌝ }
+    ensures { λ r. ⌜ PartWritten (listFunctionIn (optionsOf options) (contextFrom (now (sheet .entry)) (now (types .entry)) (now (ops .entry)) (now (bytes .entry)) (now (ends .entry))) last (areaOf (now (functions .entry)) (now (area .entry)) base) id) (now (out .entry)) «from» (now (out .exit)) r ⌝ }
 {
     if operation::area::in_area(functions, area, base, id) {
         let start = wide(functions[3 * id]) - wide(base);
@@ -115,9 +110,7 @@ pub fn list_function_in(
         let name = wide(functions[3 * id + 2]);
         let body = slices::part::part_of(area, start, size);
         return list_titled(
-            offsets,
-            labels,
-            texts,
+            options,
             sheet,
             types,
             ops,

@@ -17,6 +17,7 @@ ghost use Rattle.listing.specs.Functions.{areaOf};
 ghost use Rattle.list_module.specs.Modules.{partRefusal, ModuleWritten};
 use crate::function_part::FunctionPart;
 use listing::answer::ListAnswer;
+use listing::options::Options;
 use operation::inputs::Inputs;
 use slices::write::clear;
 
@@ -38,9 +39,7 @@ fn larger(a: usize, b: usize) -> usize
 
 // Lists all functions by index, up to one that is refused. Label entries are used for one function at a time.
 fn list_functions(
-    offsets: bool,
-    labels: bool,
-    texts: bool,
+    options: Options,
     sheet: &[u8],
     types: &[[u8; 8]; 256],
     ops: &[[usize; 4]; 256],
@@ -52,16 +51,14 @@ fn list_functions(
     base: u32,
     out: &mut [u8],
 ) -> FunctionPart
-    ensures { λ r. ⌜ ModuleWritten (listAll (optionsOf offsets labels texts) (contextFrom (now (sheet .entry)) (now (types .entry)) (now (ops .entry)) (now (bytes .entry)) (now (ends .entry))) last (areaOf (now (functions .entry)) (now (area .entry)) base)) (now (out .entry)) (now (out .exit)) r ⌝ }
+    ensures { λ r. ⌜ ModuleWritten (listAll (optionsOf options) (contextFrom (now (sheet .entry)) (now (types .entry)) (now (ops .entry)) (now (bytes .entry)) (now (ends .entry))) last (areaOf (now (functions .entry)) (now (area .entry)) base)) (now (out .entry)) (now (out .exit)) r ⌝ }
 {
     let mut id: usize = 0;
     let mut at: usize = 0;
     let mut most: usize = 0;
     while id < functions.len() / 3 {
         let p = crate::function_part::list_function_in(
-            offsets,
-            labels,
-            texts,
+            options,
             sheet,
             types,
             ops,
@@ -117,9 +114,7 @@ fn end_module(p: FunctionPart, lent: usize, out: &mut [u8]) -> ListAnswer
 
 // Lists a module under the tables of a sheet, whose names are parts of `sheet`.
 fn module_under(
-    offsets: bool,
-    labels: bool,
-    texts: bool,
+    options: Options,
     sheet: &[u8],
     types: &[[u8; 8]; 256],
     ops: &[[usize; 4]; 256],
@@ -132,12 +127,10 @@ fn module_under(
     lent: usize,
     out: &mut [u8],
 ) -> ListAnswer
-    ensures { λ r. ⌜ Ended (listOutcome lent (listAll (optionsOf offsets labels texts) (contextFrom (now (sheet .entry)) (now (types .entry)) (now (ops .entry)) (now (bytes .entry)) (now (ends .entry))) last (areaOf (now (functions .entry)) (now (area .entry)) base))) (now (out .entry)) (now (out .exit)) r ⌝ }
+    ensures { λ r. ⌜ Ended (listOutcome lent (listAll (optionsOf options) (contextFrom (now (sheet .entry)) (now (types .entry)) (now (ops .entry)) (now (bytes .entry)) (now (ends .entry))) last (areaOf (now (functions .entry)) (now (area .entry)) base))) (now (out .entry)) (now (out .exit)) r ⌝ }
 {
     let p = list_functions(
-        offsets,
-        labels,
-        texts,
+        options,
         sheet,
         types,
         ops,
@@ -154,9 +147,7 @@ fn module_under(
 
 // Lists all functions of an area: `functions` are triples of offset, size and name id, and offsets count from `base`.
 pub fn list_module(
-    offsets: bool,
-    labels: bool,
-    texts: bool,
+    options: Options,
     sheet: &[u8],
     bytes: &[u8],
     ends: &[u32],
@@ -166,7 +157,7 @@ pub fn list_module(
     out: &mut [u8],
     entries: &mut [u32],
 ) -> ListAnswer
-    ensures { λ r. ⌜ Ended (operation.listModule (optionsOf offsets labels texts) (now (sheet .entry)) (now (bytes .entry)) (now (ends .entry)) (areaOf (now (functions .entry)) (now (area .entry)) base) (length (now (entries .entry)))) (now (out .entry)) (now (out .exit)) r ⌝ }
+    ensures { λ r. ⌜ Ended (operation.listModule (optionsOf options) (now (sheet .entry)) (now (bytes .entry)) (now (ends .entry)) (areaOf (now (functions .entry)) (now (area .entry)) base) (length (now (entries .entry)))) (now (out .entry)) (now (out .exit)) r ⌝ }
     ensures { λ _. ⌜ now (entries .exit) ≡ replicate (length (now (entries .entry))) 0 ⌝ }
 {
     slices::clearing::clear_entries(entries);
@@ -178,9 +169,7 @@ pub fn list_module(
         return listing::list::refused_inputs(i);
     };
     module_under(
-        offsets,
-        labels,
-        texts,
+        options,
         sheet,
         &types,
         &ops,

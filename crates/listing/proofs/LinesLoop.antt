@@ -26,6 +26,7 @@ use Rattle.spec_listing.specs.Line.{instructionText}
 use Rattle.spec_listing.specs.Labels.{labelOffsets}
 use Rattle.spec_listing.specs.Listing.{labelLine, labelText, instructionLine, longLine, listedText}
 use Rattle.listing.specs.Parts.{Decodes, recordsOf, Flagged, flaggedText, optionsOf}
+use Rattle.listing.specs.declared.options.Options as declared
 
 -- the records of a body that decodes
 pub records-are : (types : List (List ℕ)) (last : ℕ) (s : List ℕ) (d : Decodes types last s) → Decoding types last s 0 (recordsOf (decodeBody types last s))
@@ -207,9 +208,9 @@ pub put-rises : {out out′ t : List ℕ} {a c : ℕ} → Put out a t out′ c �
 put-rises w h = omega (arith, w .next)
 
 -- the printing that the function is given part by part
-abbrev pub printing : Bool → Bool → Bool → List ℕ → List (List ℕ) → List (List ℕ) → ℕ → List ℕ → List ℕ → List ℕ → List ℕ → List ℕ → Printing
-printing offsets labels texts source types ops last bytes ends s flags indent = record {
-  o = optionsOf offsets labels texts;
+abbrev pub printing : declared.Options → List ℕ → List (List ℕ) → List (List ℕ) → ℕ → List ℕ → List ℕ → List ℕ → List ℕ → List ℕ → Printing
+printing options source types ops last bytes ends s flags indent = record {
+  o = optionsOf options;
   e = contextFrom source types ops bytes ends;
   labels = labelOffsets (contextFrom source types ops bytes ends) (recordsOf (decodeBody types last s));
   flags = flags;

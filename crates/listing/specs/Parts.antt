@@ -17,6 +17,7 @@ use Rattle.spec_listing.specs.Listing.{Listed, labelLine}
 use Rattle.spec_listing.specs.Listing.Listed.{listed, refused}
 use Rattle.listing.specs.declared.body_lines.Lines.{Lines}
 use Rattle.listing.specs.declared.body_lines.Lines.the-variants as lines
+use Rattle.listing.specs.declared.options.Options as declared
 
 -- a body that decodes, and its records
 pub record Decodes (types : List (List ℕ)) (last : ℕ) (s : List ℕ) : Type 0 where
@@ -36,9 +37,13 @@ Flagged flags labels = (i : ℕ) → i < length flags → eqb (getD flags i 0) 1
 unfoldable pub flaggedText : Bool → List ℕ → List ℕ → ℕ → List ℕ
 flaggedText labels flags indent at = pick (both labels (eqb (getD flags at 0) 1)) (labelLine indent at) []
 
--- the options that the functions are given one by one
-abbrev pub optionsOf : Bool → Bool → Bool → Options
-optionsOf offsets labels texts = record { showOffsets = offsets; showLabels = labels; resolveStrings = texts }
+-- the options that a function is given one by one
+abbrev pub optionsFrom : Bool → Bool → Bool → Options
+optionsFrom offsets labels texts = record { showOffsets = offsets; showLabels = labels; resolveStrings = texts }
+
+-- and as one
+abbrev pub optionsOf : declared.Options → Options
+optionsOf o = optionsFrom (o .«show_offsets») (o .«show_labels») (o .«resolve_strings»)
 
 -- lines whose text is t, unless one is too long, were written at `from`: the buffer was `out` and is `out′`
 pub data Lined (t : List ℕ) (long : Found) (out : List ℕ) («from» : ℕ) (out′ : List ℕ) (r : Lines) : Type 0 where

@@ -10,6 +10,7 @@ ghost use Rattle.listing.specs.Parts.{optionsOf};
 ghost use Rattle.spec_inputs.specs.Context.{contextFrom};
 ghost use Rattle.listing.specs.Bodies.{Written};
 use crate::body_lines::Lines;
+use crate::options::Options;
 use list_labels::collect::Collected;
 
 // The next position and the label entries needed; or where the body is refused: 13, 14, 3.
@@ -29,9 +30,7 @@ fn entries_for(labels: bool, n: usize) -> usize
 
 // With flags that are lent and zero.
 fn list_flagged(
-    offsets: bool,
-    labels: bool,
-    texts: bool,
+    options: Options,
     sheet: &[u8],
     types: &[[u8; 8]; 256],
     ops: &[[usize; 4]; 256],
@@ -46,15 +45,13 @@ fn list_flagged(
 ) -> Part
     requires { ⌜ now flags ≡ replicate (length (now flags)) 0 ⌝ }
     requires { ⌜ (length (now s) ≤ length (now flags)) × (length (now s) ≤ bodyLimit) × (length (now indent) ≤ 2) × («from» ≤ 2 * listingLimit) ⌝ }
-    ensures { λ r. ⌜ Written (listDecoded (optionsOf offsets labels texts) (contextFrom (now (sheet .entry)) (now (types .entry)) (now (ops .entry)) (now (bytes .entry)) (now (ends .entry))) (now (indent .entry)) (decodeBody (now (types .entry)) last (now (s .entry)))) (now (out .entry)) «from» (now (out .exit)) r ⌝ }
+    ensures { λ r. ⌜ Written (listDecoded (optionsOf options) (contextFrom (now (sheet .entry)) (now (types .entry)) (now (ops .entry)) (now (bytes .entry)) (now (ends .entry))) (now (indent .entry)) (decodeBody (now (types .entry)) last (now (s .entry)))) (now (out .entry)) «from» (now (out .exit)) r ⌝ }
 {
     let c = list_labels::collect::collect_label_offsets(sheet, types, ops, last, s, flags);
     match c {
         Collected::Entries(n) => {
             let l = crate::body_lines::list_lines(
-                offsets,
-                labels,
-                texts,
+                options,
                 sheet,
                 types,
                 ops,
@@ -68,7 +65,7 @@ fn list_flagged(
                 from,
             );
             match l {
-                Lines::To(k) => Part::Listed(k, entries_for(labels, n)),
+                Lines::To(k) => Part::Listed(k, entries_for(options.show_labels, n)),
                 Lines::Long(at) => Part::Long(at),
             }
         }
@@ -91,9 +88,7 @@ fn all_flags() -> [u8; limits::BODY_LIMIT] {
 
 // Lists a body at position `from`. A small body takes small flags, which cost less to clear.
 pub fn list_body(
-    offsets: bool,
-    labels: bool,
-    texts: bool,
+    options: Options,
     sheet: &[u8],
     types: &[[u8; 8]; 256],
     ops: &[[usize; 4]; 256],
@@ -106,15 +101,13 @@ pub fn list_body(
     from: usize,
 ) -> Part
     requires { ⌜ (length (now s) ≤ bodyLimit) × (length (now indent) ≤ 2) × («from» ≤ 2 * listingLimit) ⌝ }
-    ensures { λ r. ⌜ Written (listDecoded (optionsOf offsets labels texts) (contextFrom (now (sheet .entry)) (now (types .entry)) (now (ops .entry)) (now (bytes .entry)) (now (ends .entry))) (now (indent .entry)) (decodeBody (now (types .entry)) last (now (s .entry)))) (now (out .entry)) «from» (now (out .exit)) r ⌝ }
+    ensures { λ r. ⌜ Written (listDecoded (optionsOf options) (contextFrom (now (sheet .entry)) (now (types .entry)) (now (ops .entry)) (now (bytes .entry)) (now (ends .entry))) (now (indent .entry)) (decodeBody (now (types .entry)) last (now (s .entry)))) (now (out .entry)) «from» (now (out .exit)) r ⌝ }
 {
     if s.len() <= SMALL_BODY {
         let mut flags = few_flags();
         slices::write::clear(&mut flags);
         return list_flagged(
-            offsets,
-            labels,
-            texts,
+            options,
             sheet,
             types,
             ops,
@@ -131,9 +124,7 @@ pub fn list_body(
     let mut flags = all_flags();
     slices::write::clear(&mut flags);
     list_flagged(
-        offsets,
-        labels,
-        texts,
+        options,
         sheet,
         types,
         ops,

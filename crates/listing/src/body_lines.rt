@@ -8,6 +8,7 @@ ghost use Rattle.spec_listing.specs.Labels.{labelOffsets};
 ghost use Rattle.spec_listing.specs.Listing.{labelLine, longLine, listedText};
 ghost use Rattle.listing.specs.Parts.{Decodes, Flagged, recordsOf, Lined, flaggedText, optionsOf};
 ghost use Rattle.spec_inputs.specs.Context.{contextFrom};
+use crate::options::Options;
 use numbers::print_decimal::put_decimal;
 use slices::write::put_byte;
 use slices::write::put_bytes;
@@ -49,9 +50,7 @@ fn put_flagged_label(
 
 // Writes all lines. The caller keeps `from` small, so that a line's length is known from the two positions around it.
 pub fn list_lines(
-    offsets: bool,
-    labels: bool,
-    texts: bool,
+    options: Options,
     sheet: &[u8],
     types: &[[u8; 8]; 256],
     ops: &[[usize; 4]; 256],
@@ -68,8 +67,8 @@ pub fn list_lines(
     requires { ⌜ Flagged (now flags) (labelOffsets (contextFrom (now sheet) (now types) (now ops) (now bytes) (now ends)) (recordsOf (decodeBody (now types) last (now s)))) ⌝ }
     requires { ⌜ (length (now s) ≤ length (now flags)) × (length (now s) ≤ bodyLimit) × (length (now indent) ≤ 2) × («from» ≤ 2 * listingLimit) ⌝ }
     ensures { λ r. ⌜ Lined
-        (listedText (optionsOf offsets labels texts) (contextFrom (now (sheet .entry)) (now (types .entry)) (now (ops .entry)) (now (bytes .entry)) (now (ends .entry))) (labelOffsets (contextFrom (now (sheet .entry)) (now (types .entry)) (now (ops .entry)) (now (bytes .entry)) (now (ends .entry))) (recordsOf (decodeBody (now (types .entry)) last (now (s .entry))))) (now (indent .entry)) (recordsOf (decodeBody (now (types .entry)) last (now (s .entry)))))
-        (longLine (optionsOf offsets labels texts) (contextFrom (now (sheet .entry)) (now (types .entry)) (now (ops .entry)) (now (bytes .entry)) (now (ends .entry))) (now (indent .entry)) (recordsOf (decodeBody (now (types .entry)) last (now (s .entry)))))
+        (listedText (optionsOf options) (contextFrom (now (sheet .entry)) (now (types .entry)) (now (ops .entry)) (now (bytes .entry)) (now (ends .entry))) (labelOffsets (contextFrom (now (sheet .entry)) (now (types .entry)) (now (ops .entry)) (now (bytes .entry)) (now (ends .entry))) (recordsOf (decodeBody (now (types .entry)) last (now (s .entry))))) (now (indent .entry)) (recordsOf (decodeBody (now (types .entry)) last (now (s .entry)))))
+        (longLine (optionsOf options) (contextFrom (now (sheet .entry)) (now (types .entry)) (now (ops .entry)) (now (bytes .entry)) (now (ends .entry))) (now (indent .entry)) (recordsOf (decodeBody (now (types .entry)) last (now (s .entry)))))
         (now (out .entry)) «from» (now (out .exit)) r ⌝ }
 {
     let mut k = from;
@@ -78,13 +77,12 @@ pub fn list_lines(
         let op = s[at] as usize;
         let row = types[op];
         let size = decode::record::instruction_length(row);
-        let a = put_flagged_label(out, k, labels, flags, indent, at);
+        let a = put_flagged_label(out, k, options.show_labels, flags, indent, at);
         let b = put_bytes(out, a, indent);
         let c = crate::instruction::put_instruction(
             out,
             b,
-            offsets,
-            texts,
+            options,
             sheet,
             types,
             ops,

@@ -11,6 +11,7 @@ ghost use Rattle.spec_body.specs.Record.{lengthOf, recordOf};
 ghost use Rattle.spec_body.specs.Decode.{rowAt};
 ghost use Rattle.spec_listing.specs.Line.{offsetText, instructionText};
 use crate::operand_text::put_operands;
+use crate::options::Options;
 use slices::write::put_bytes;
 
 // Writes an offset and two spaces, where offsets are shown.
@@ -39,8 +40,7 @@ fn put_name(out: &mut [u8], k: usize, sheet: &[u8], start: usize, size: usize) -
 pub fn put_instruction(
     out: &mut [u8],
     k: usize,
-    offsets: bool,
-    texts: bool,
+    options: Options,
     sheet: &[u8],
     types: &[[u8; 8]; 256],
     ops: &[[usize; 4]; 256],
@@ -50,12 +50,12 @@ pub fn put_instruction(
     at: usize,
 ) -> usize
     requires { ⌜ (at + lengthOf (rowAt (now types) (now s) at) ≤ length (now s)) × (length (now s) ≤ bodyLimit) ⌝ }
-    ensures { λ r. ⌜ Put (now (out .entry)) k (instructionText offsets texts (record { sheet = now (sheet .entry); types = now (types .entry); infos = now (ops .entry); bytes = now (bytes .entry); ends = now (ends .entry) }) (recordOf (rowAt (now (types .entry)) (now (s .entry)) at) (now (s .entry)) at)) (now (out .exit)) r ⌝ }
+    ensures { λ r. ⌜ Put (now (out .entry)) k (instructionText (options .«show_offsets») (options .«resolve_strings») (record { sheet = now (sheet .entry); types = now (types .entry); infos = now (ops .entry); bytes = now (bytes .entry); ends = now (ends .entry) }) (recordOf (rowAt (now (types .entry)) (now (s .entry)) at) (now (s .entry)) at)) (now (out .exit)) r ⌝ }
 {
     let op = s[at] as usize;
     let info = ops[op];
     let row = types[op];
-    let a = put_offset(out, k, offsets, at);
+    let a = put_offset(out, k, options.show_offsets, at);
     let b = put_name(out, a, sheet, info[2], info[3]);
-    put_operands(out, b, texts, bytes, ends, row, s, at)
+    put_operands(out, b, options.resolve_strings, bytes, ends, row, s, at)
 }

@@ -6,3 +6,4 @@ pub mod instruction; // one instruction
 pub mod list; // the operation on a body
 pub mod list_function; // the operation on a function
 pub mod operand_text; // one operand, and all of an instruction
+pub mod options; // what a listing shows

@@ -11,16 +11,15 @@ ghost use Rattle.spec_listing.specs.Operation.{listOutcome};
 ghost use Rattle.listing.specs.Parts.{optionsOf};
 ghost use Rattle.spec_inputs.specs.Context.{contextFrom};
 ghost use Rattle.listing.specs.Answers.{listReport, Ended};
-use crate::answer::ListAnswer;
 ghost use Rattle.operation.specs.Read.{inputsReport};
+use crate::answer::ListAnswer;
+use crate::options::Options;
 use operation::inputs::Inputs;
 use slices::write::clear;
 
 // Lists a body under the tables of a sheet, whose names are parts of `sheet`.
 pub fn list_under(
-    offsets: bool,
-    labels: bool,
-    texts: bool,
+    options: Options,
     sheet: &[u8],
     types: &[[u8; 8]; 256],
     ops: &[[usize; 4]; 256],
@@ -32,12 +31,10 @@ pub fn list_under(
     out: &mut [u8],
 ) -> ListAnswer
     requires { ⌜ length (now s) ≤ bodyLimit ⌝ }
-    ensures { λ r. ⌜ Ended (listOutcome lent (listDecoded (optionsOf offsets labels texts) (contextFrom (now (sheet .entry)) (now (types .entry)) (now (ops .entry)) (now (bytes .entry)) (now (ends .entry))) [] (decodeBody (now (types .entry)) last (now (s .entry))))) (now (out .entry)) (now (out .exit)) r ⌝ }
+    ensures { λ r. ⌜ Ended (listOutcome lent (listDecoded (optionsOf options) (contextFrom (now (sheet .entry)) (now (types .entry)) (now (ops .entry)) (now (bytes .entry)) (now (ends .entry))) [] (decodeBody (now (types .entry)) last (now (s .entry))))) (now (out .entry)) (now (out .exit)) r ⌝ }
 {
     let p = crate::body::list_body(
-        offsets,
-        labels,
-        texts,
+        options,
         sheet,
         types,
         ops,
@@ -66,9 +63,7 @@ pub fn refused_inputs(i: Inputs) -> ListAnswer
 
 // Lists a body under a sheet given as text and a string table.
 pub fn list(
-    offsets: bool,
-    labels: bool,
-    texts: bool,
+    options: Options,
     sheet: &[u8],
     bytes: &[u8],
     ends: &[u32],
@@ -76,7 +71,7 @@ pub fn list(
     out: &mut [u8],
     entries: &mut [u32],
 ) -> ListAnswer
-    ensures { λ r. ⌜ Ended (operation.list (optionsOf offsets labels texts) (now (sheet .entry)) (now (bytes .entry)) (now (ends .entry)) (now (body .entry)) (length (now (entries .entry)))) (now (out .entry)) (now (out .exit)) r ⌝ }
+    ensures { λ r. ⌜ Ended (operation.list (optionsOf options) (now (sheet .entry)) (now (bytes .entry)) (now (ends .entry)) (now (body .entry)) (length (now (entries .entry)))) (now (out .entry)) (now (out .exit)) r ⌝ }
     ensures { λ _. ⌜ now (entries .exit) ≡ replicate (length (now (entries .entry))) 0 ⌝ }
 {
     slices::clearing::clear_entries(entries);
@@ -92,9 +87,7 @@ pub fn list(
         return refused_inputs(i);
     };
     list_under(
-        offsets,
-        labels,
-        texts,
+        options,
         sheet,
         &types,
         &ops,

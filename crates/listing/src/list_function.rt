@@ -7,15 +7,14 @@ ghost use Rattle.spec_inputs.specs.Context.{contextFrom};
 ghost use Rattle.listing.specs.Answers.{Ended};
 ghost use Rattle.listing.specs.Functions.{areaOf, functionUnder};
 use crate::answer::ListAnswer;
+use crate::options::Options;
 use operation::area::wide;
 use operation::inputs::Inputs;
 use slices::write::clear;
 
 // Lists a function under the tables of a sheet, whose names are parts of `sheet`.
 fn function_under(
-    offsets: bool,
-    labels: bool,
-    texts: bool,
+    options: Options,
     sheet: &[u8],
     types: &[[u8; 8]; 256],
     ops: &[[usize; 4]; 256],
@@ -29,7 +28,7 @@ fn function_under(
     lent: usize,
     out: &mut [u8],
 ) -> ListAnswer
-    ensures { λ r. ⌜ Ended (functionUnder (optionsOf offsets labels texts) (areaOf (now (functions .entry)) (now (area .entry)) base) id lent (contextFrom (now (sheet .entry)) (now (types .entry)) (now (ops .entry)) (now (bytes .entry)) (now (ends .entry))) last) (now (out .entry)) (now (out .exit)) r ⌝ }
+    ensures { λ r. ⌜ Ended (functionUnder (optionsOf options) (areaOf (now (functions .entry)) (now (area .entry)) base) id lent (contextFrom (now (sheet .entry)) (now (types .entry)) (now (ops .entry)) (now (bytes .entry)) (now (ends .entry))) last) (now (out .entry)) (now (out .exit)) r ⌝ }
 {
     if operation::area::in_area(functions, area, base, id) {
         let start = wide(functions[3 * id]) - wide(base);
@@ -40,9 +39,7 @@ fn function_under(
         }
         let body = slices::part::part_of(area, start, size);
         return crate::list::list_under(
-            offsets,
-            labels,
-            texts,
+            options,
             sheet,
             types,
             ops,
@@ -60,9 +57,7 @@ fn function_under(
 
 // Lists one function of an area: `functions` are triples of offset, size and name id, and offsets count from `base`.
 pub fn list_function(
-    offsets: bool,
-    labels: bool,
-    texts: bool,
+    options: Options,
     sheet: &[u8],
     bytes: &[u8],
     ends: &[u32],
@@ -73,7 +68,7 @@ pub fn list_function(
     out: &mut [u8],
     entries: &mut [u32],
 ) -> ListAnswer
-    ensures { λ r. ⌜ Ended (operation.listFunction (optionsOf offsets labels texts) (now (sheet .entry)) (now (bytes .entry)) (now (ends .entry)) (areaOf (now (functions .entry)) (now (area .entry)) base) id (length (now (entries .entry)))) (now (out .entry)) (now (out .exit)) r ⌝ }
+    ensures { λ r. ⌜ Ended (operation.listFunction (optionsOf options) (now (sheet .entry)) (now (bytes .entry)) (now (ends .entry)) (areaOf (now (functions .entry)) (now (area .entry)) base) id (length (now (entries .entry)))) (now (out .entry)) (now (out .exit)) r ⌝ }
     ensures { λ _. ⌜ now (entries .exit) ≡ replicate (length (now (entries .entry))) 0 ⌝ }
 {
     slices::clearing::clear_entries(entries);
@@ -85,9 +80,7 @@ pub fn list_function(
         return crate::list::refused_inputs(i);
     };
     function_under(
-        offsets,
-        labels,
-        texts,
+        options,
         sheet,
         &types,
         &ops,

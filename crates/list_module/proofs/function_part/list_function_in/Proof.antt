@@ -62,7 +62,7 @@ returns : tie.Need-returns
 returns c =
     let a = c .before .before .before .before .before .before .before .before .before .before .before .before .before .before .args in
     let e = contextFrom (a .sheet .now) (a .types .now) (a .ops .now) (a .bytes .now) (a .ends .now) in
-    in-large (optionsOf (a .offsets) (a .labels) (a .texts)) e (a .last) (a .functions .now) (a .area .now) (a .base) (a .id) (inside (c .before .before .before .before .before .before)) (omega (arith, c .if2 .taken, c .before .wide3 .ensures .0)) refl
+    in-large (optionsOf (a .options)) e (a .last) (a .functions .now) (a .area .now) (a .base) (a .id) (inside (c .before .before .before .before .before .before)) (omega (arith, c .if2 .taken, c .before .wide3 .ensures .0)) refl
 
 mul-wide-5 : tie.Need-mul-wide-5
 mul-wide-5 c = omega (arith, words (c .before .before .before .before .before .before))
@@ -96,13 +96,13 @@ returns-2 c =
     let a = c .before .before .before .before .before .before .before .before .before .before .before .before .before .before .before .before .before .before .before .before .before .args in
     let e = contextFrom (a .sheet .now) (a .types .now) (a .ops .now) (a .bytes .now) (a .ends .now) in
     let b = rw (c .before .before .before .before .before .before .before .before .wide3 .ensures .0, c .before .before .before .before .before .before .before .before .before .before .wide2 .ensures .0, c .before .before .before .before .before .before .before .before .before .before .before .wide .ensures .0) at (c .before .before .before .before .part-of .ensures) in
-    in-titled (optionsOf (a .offsets) (a .labels) (a .texts)) e (a .last) (a .functions .now) (a .area .now) (a .base) (a .id) (inside (c .before .before .before .before .before .before .before .before .before .before .before .before .before)) (omega (arith, c .before .before .before .before .before .before .before .if2 .left, c .before .before .before .before .before .before .before .before .wide3 .ensures .0)) (c .before .before .before .before .before .wide4 .ensures .0) b (c .before .before .list-titled .ensures)
+    in-titled (optionsOf (a .options)) e (a .last) (a .functions .now) (a .area .now) (a .base) (a .id) (inside (c .before .before .before .before .before .before .before .before .before .before .before .before .before)) (omega (arith, c .before .before .before .before .before .before .before .if2 .left, c .before .before .before .before .before .before .before .before .wide3 .ensures .0)) (c .before .before .before .before .before .wide4 .ensures .0) b (c .before .before .list-titled .ensures)
 
 returns-3 : tie.Need-returns-3
 returns-3 c =
     let a = c .before .before .before .before .before .before .before .before .args in
     let e = contextFrom (a .sheet .now) (a .types .now) (a .ops .now) (a .bytes .now) (a .ends .now) in
-    in-none (optionsOf (a .offsets) (a .labels) (a .texts)) e (a .last) (a .functions .now) (a .area .now) (a .base) (a .id) (sym (c .before .in-area .ensures) ∙ c .if1 .left) refl
+    in-none (optionsOf (a .options)) e (a .last) (a .functions .now) (a .area .now) (a .base) (a .id) (sym (c .before .in-area .ensures) ∙ c .if1 .left) refl
 
 pub list-function-in-spec : {M : Type 1} → statement M
 list-function-in-spec =

@@ -17,7 +17,7 @@ same-length c = search needs
 returns : tie.Need-returns
 returns c =
     let a = c .before .before .before .before .before .before .before .before .before .before .args in
-    titled-long (optionsOf (a .offsets) (a .labels) (a .texts)) (contextFrom (a .sheet .now) (a .types .now) (a .ops .now) (a .bytes .now) (a .ends .now)) (a .last) (a .id) (a .name) (a .s .now) (c .before .before .before .before .before .before .before .before .before .before .pre .1) (c .before .before .before .put-title .ensures) (c .if1 .taken)
+    titled-long (optionsOf (a .options)) (contextFrom (a .sheet .now) (a .types .now) (a .ops .now) (a .bytes .now) (a .ends .now)) (a .last) (a .id) (a .name) (a .s .now) (c .before .before .before .before .before .before .before .before .before .before .pre .1) (c .before .before .before .put-title .ensures) (c .if1 .taken)
 
 put-byte-requires : tie.Need-put-byte-requires
 put-byte-requires c κs = search needs
@@ -37,7 +37,7 @@ same-length-2 c = search needs
 returns-2 : tie.Need-returns-2
 returns-2 c =
     let a = c .before .before .before .before .before .before .before .before .before .before .before .before .before .before .before .before .before .before .before .before .before .before .before .args in
-    titled-listed (optionsOf (a .offsets) (a .labels) (a .texts)) (contextFrom (a .sheet .now) (a .types .now) (a .ops .now) (a .bytes .now) (a .ends .now)) (a .last) (a .id) (a .name) (a .s .now) (c .before .before .before .before .before .before .before .before .before .before .before .before .before .before .before .before .before .before .before .before .before .before .before .pre .1) (c .before .before .before .before .before .before .before .before .before .before .before .before .before .before .before .before .put-title .ensures) (c .before .before .before .before .before .before .before .before .before .before .before .before .before .if1 .left) (c .before .before .before .before .before .before .before .before .before .before .before .put-byte .ensures) (c .before .before .before .before .before .before .list-body .ensures) (c .before .before .end-part .ensures)
+    titled-listed (optionsOf (a .options)) (contextFrom (a .sheet .now) (a .types .now) (a .ops .now) (a .bytes .now) (a .ends .now)) (a .last) (a .id) (a .name) (a .s .now) (c .before .before .before .before .before .before .before .before .before .before .before .before .before .before .before .before .before .before .before .before .before .before .before .pre .1) (c .before .before .before .before .before .before .before .before .before .before .before .before .before .before .before .before .put-title .ensures) (c .before .before .before .before .before .before .before .before .before .before .before .before .before .if1 .left) (c .before .before .before .before .before .before .before .before .before .before .before .put-byte .ensures) (c .before .before .before .before .before .before .list-body .ensures) (c .before .before .end-part .ensures)
 
 pub list-titled-spec : {M : Type 1} → statement M
 list-titled-spec =

@@ -10,16 +10,16 @@ use Rattle.list_module.proofs.module.list_functions.Statement.{statemen
 use Rattle.list_module.proofs.module.list_functions.Tie as tie
 
 abbrev Inv-loop : tie.InvT-loop
-Inv-loop offsets labels texts sheet types ops last bytes ends functions area base out₀ id₀ at₀ most₀ out id at most =
-    Listing (optionsOf offsets labels texts) (contextFrom sheet types ops bytes ends) last (areaOf functions area base) out₀ out id at most
+Inv-loop options sheet types ops last bytes ends functions area base out₀ id₀ at₀ most₀ out id at most =
+    Listing (optionsOf options) (contextFrom sheet types ops bytes ends) last (areaOf functions area base) out₀ out id at most
 
 abbrev μ-loop : tie.MeasureT-loop
-μ-loop offsets labels texts sheet types ops last bytes ends functions area base out₀ id₀ at₀ most₀ out id at most = length functions / 3 - id
+μ-loop options sheet types ops last bytes ends functions area base out₀ id₀ at₀ most₀ out id at most = length functions / 3 - id
 
 loop-holds : tie.Need-loop-holds Inv-loop μ-loop
 loop-holds c =
     let a = c .before .before .before .before .before .before .args in
-    listing-start (optionsOf (a .offsets) (a .labels) (a .texts)) (contextFrom (a .sheet .now) (a .types .now) (a .ops .now) (a .bytes .now) (a .ends .now)) (a .last) (areaOf (a .functions .now) (a .area .now) (a .base)) (omega arith)
+    listing-start (optionsOf (a .options)) (contextFrom (a .sheet .now) (a .types .now) (a .ops .now) (a .bytes .now) (a .ends .now)) (a .last) (areaOf (a .functions .now) (a .area .now) (a .base)) (omega arith)
 
 list-function-in-requires : tie.Need-list-function-in-requires Inv-loop μ-loop
 list-function-in-requires c κs = omega (arith, c .before .before .loop .inv .at-is)
@@ -33,7 +33,7 @@ same-length c = search needs
 returns : tie.Need-returns Inv-loop μ-loop
 returns c =
     let a = c .before .before .before .before .before .before .before .before .before .before .before .before .before .args in
-    listing-stopped (optionsOf (a .offsets) (a .labels) (a .texts)) (contextFrom (a .sheet .now) (a .types .now) (a .ops .now) (a .bytes .now) (a .ends .now)) (a .last) (areaOf (a .functions .now) (a .area .now) (a .base)) (c .before .before .before .before .before .before .loop .inv) (c .before .before .before .before .before .loop-test .taken) (c .before .before .before .list-function-in .ensures) (λ k n q. not-listed (rw q at (c .match .keys2)))
+    listing-stopped (optionsOf (a .options)) (contextFrom (a .sheet .now) (a .types .now) (a .ops .now) (a .bytes .now) (a .ends .now)) (a .last) (areaOf (a .functions .now) (a .area .now) (a .base)) (c .before .before .before .before .before .before .loop .inv) (c .before .before .before .before .before .loop-test .taken) (c .before .before .before .list-function-in .ensures) (λ k n q. not-listed (rw q at (c .match .keys2)))
 
 capped-requires : tie.Need-capped-requires Inv-loop μ-loop
 capped-requires c κs = search needs
@@ -42,7 +42,7 @@ larger-requires : tie.Need-larger-requires Inv-loop μ-loop
 larger-requires c κs = search needs
 
 add-id : tie.Need-add-id Inv-loop μ-loop
-add-id c = record { fits = omega (arith, c .before .before .before .before .before .before .before .before .before .loop-test .taken, c .before .before .before .before .before .before .before .before .before .before .before .before .before .before .before .before .before .good .1 .1 .1 .1 .1 .1 .1 .1 .1 .0) }
+add-id c = record { fits = omega (arith, c .before .before .before .before .before .before .before .before .before .loop-test .taken, c .before .before .before .before .before .before .before .before .before .before .before .before .before .before .before .before .before .good .1 .1 .1 .1 .1 .1 .1 .0) }
 
 loop-less : tie.Need-loop-less Inv-loop μ-loop
 loop-less c = search needs
@@ -50,7 +50,7 @@ loop-less c = search needs
 loop-again : tie.Need-loop-again Inv-loop μ-loop
 loop-again c =
     let a = c .before .before .before .before .before .before .before .before .before .before .before .before .before .before .before .before .before .args in
-    listing-turn (optionsOf (a .offsets) (a .labels) (a .texts)) (contextFrom (a .sheet .now) (a .types .now) (a .ops .now) (a .bytes .now) (a .ends .now)) (a .last) (areaOf (a .functions .now) (a .area .now) (a .base)) (c .before .before .before .before .before .before .before .before .before .before .loop .inv) (c .before .before .before .before .before .before .before .before .before .loop-test .taken) (c .before .before .before .before .before .before .before .list-function-in .ensures) (c .before .before .before .p .given .1) (c .before .capped .ensures) (c .larger .ensures)
+    listing-turn (optionsOf (a .options)) (contextFrom (a .sheet .now) (a .types .now) (a .ops .now) (a .bytes .now) (a .ends .now)) (a .last) (areaOf (a .functions .now) (a .area .now) (a .base)) (c .before .before .before .before .before .before .before .before .before .before .loop .inv) (c .before .before .before .before .before .before .before .before .before .loop-test .taken) (c .before .before .before .before .before .before .before .list-function-in .ensures) (c .before .before .before .p .given .1) (c .before .capped .ensures) (c .larger .ensures)
 
 same-length-2 : tie.Need-same-length-2 Inv-loop μ-loop
 same-length-2 c = search needs
@@ -58,7 +58,7 @@ same-length-2 c = search needs
 returns-2 : tie.Need-returns-2 Inv-loop μ-loop
 returns-2 c =
     let a = c .before .before .before .before .before .before .before .before .args in
-    listing-finished (optionsOf (a .offsets) (a .labels) (a .texts)) (contextFrom (a .sheet .now) (a .types .now) (a .ops .now) (a .bytes .now) (a .ends .now)) (a .last) (areaOf (a .functions .now) (a .area .now) (a .base)) (c .before .loop .inv) (c .loop-test .left)
+    listing-finished (optionsOf (a .options)) (contextFrom (a .sheet .now) (a .types .now) (a .ops .now) (a .bytes .now) (a .ends .now)) (a .last) (areaOf (a .functions .now) (a .area .now) (a .base)) (c .before .loop .inv) (c .loop-test .left)
 
 pub list-functions-spec : {M : Type 1} → statement M
 list-functions-spec =

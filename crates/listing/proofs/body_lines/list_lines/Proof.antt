@@ -12,11 +12,11 @@ use Rattle.listing.proofs.body_lines.list_lines.Statement.{statement}
 use Rattle.listing.proofs.body_lines.list_lines.Tie as tie
 
 abbrev Inv-loop : tie.InvT-loop
-Inv-loop offsets labels texts sheet types ops last bytes ends s flags indent out₀ «from» k₀ at₀ out k at =
-    Going (printing offsets labels texts sheet types ops last bytes ends s flags indent) (recordsOf (decodeBody types last s)) out₀ «from» out k at
+Inv-loop options sheet types ops last bytes ends s flags indent out₀ «from» k₀ at₀ out k at =
+    Going (printing options sheet types ops last bytes ends s flags indent) (recordsOf (decodeBody types last s)) out₀ «from» out k at
 
 abbrev μ-loop : tie.MeasureT-loop
-μ-loop offsets labels texts sheet types ops last bytes ends s flags indent out₀ «from» k₀ at₀ out k at = length s - at
+μ-loop options sheet types ops last bytes ends s flags indent out₀ «from» k₀ at₀ out k at = length s - at
 
 loop-holds : tie.Need-loop-holds Inv-loop μ-loop
 loop-holds c = start (records-are _ _ _ (c .before .before .before .before .before .before .before .pre .0)) (omega arith) (omega arith)

@@ -22,7 +22,7 @@ same-length-2 c = search needs
 
 returns : tie.Need-returns
 unfolding listReport
-returns c = let a = c .before .before .before .before .before .before .before .before .before .before .before .before .before .before .before .args in (refused-end _ _ 18 0 0 _ _ (list-large (optionsOf (a .offsets) (a .labels) (a .texts)) (a .sheet .now) (a .bytes .now) (a .ends .now) (a .body .now) _ (c .before .before .before .before .if1 .taken)) refl (c .before .before .clear .ensures), search needs)
+returns c = let a = c .before .before .before .before .before .before .before .before .before .before .before .before .before .before .before .args in (refused-end _ _ 18 0 0 _ _ (list-large (optionsOf (a .options)) (a .sheet .now) (a .bytes .now) (a .ends .now) (a .body .now) _ (c .before .before .before .before .if1 .taken)) refl (c .before .before .clear .ensures), search needs)
 
 read-inputs-requires : tie.Need-read-inputs-requires
 read-inputs-requires c κs = search needs
@@ -43,7 +43,7 @@ same-length-4 : tie.Need-same-length-4
 same-length-4 c = search needs
 
 returns-2 : tie.Need-returns-2
-returns-2 c = let a = c .before .before .before .before .before .before .before .before .before .before .before .before .before .before .before .before .before .before .before .before .args in let o = optionsOf (a .offsets) (a .labels) (a .texts) in (rw (list-small o (a .sheet .now) (a .bytes .now) (a .ends .now) (a .body .now) _ (c .before .before .before .before .before .before .before .before .before .if1 .left)) (refused-on (bodyUnder o (a .body .now) _) (c .before .before .before .before .before .before .read-inputs .ensures) (λ last q. not-ready (rw q at (c .before .before .before .before .before .match .keys2))) (c .refused-inputs .ensures) (c .before .before .before .clear2 .ensures)), search needs)
+returns-2 c = let a = c .before .before .before .before .before .before .before .before .before .before .before .before .before .before .before .before .before .before .before .before .args in let o = optionsOf (a .options) in (rw (list-small o (a .sheet .now) (a .bytes .now) (a .ends .now) (a .body .now) _ (c .before .before .before .before .before .before .before .before .before .if1 .left)) (refused-on (bodyUnder o (a .body .now) _) (c .before .before .before .before .before .before .read-inputs .ensures) (λ last q. not-ready (rw q at (c .before .before .before .before .before .match .keys2))) (c .refused-inputs .ensures) (c .before .before .before .clear2 .ensures)), search needs)
 
 list-under-requires : tie.Need-list-under-requires
 list-under-requires c κs = search needs
@@ -55,7 +55,7 @@ same-length-6 : tie.Need-same-length-6
 same-length-6 c = search needs
 
 returns-3 : tie.Need-returns-3
-returns-3 c = let a = c .before .before .before .before .before .before .before .before .before .before .before .before .before .before .before .before .before .before .before .before .before .before .before .args in let o = optionsOf (a .offsets) (a .labels) (a .texts) in (rw (list-small o (a .sheet .now) (a .bytes .now) (a .ends .now) (a .body .now) _ (c .before .before .before .before .before .before .before .before .before .before .before .before .if1 .left), sym (c .before .before .before .before .before .before .before .before .before .before .before .before .before .before .before .clear-entries .kept .0)) (read-on (bodyUnder o (a .body .now) _) (rw (c .before .before .before .before .before .before .before .i .given .1) at (c .before .before .before .before .before .before .before .before .before .read-inputs .ensures)) (c .before .before .list-under .ensures)), search needs)
+returns-3 c = let a = c .before .before .before .before .before .before .before .before .before .before .before .before .before .before .before .before .before .before .before .before .before .before .before .args in let o = optionsOf (a .options) in (rw (list-small o (a .sheet .now) (a .bytes .now) (a .ends .now) (a .body .now) _ (c .before .before .before .before .before .before .before .before .before .before .before .before .if1 .left), sym (c .before .before .before .before .before .before .before .before .before .before .before .before .before .before .before .clear-entries .kept .0)) (read-on (bodyUnder o (a .body .now) _) (rw (c .before .before .before .before .before .before .before .i .given .1) at (c .before .before .before .before .before .before .before .before .before .read-inputs .ensures)) (c .before .before .list-under .ensures)), search needs)
 
 pub list-spec : {M : Type 1} → statement M
 list-spec =

@@ -71,7 +71,7 @@ unfolding listReport
 returns c =
     let a = c .before .before .before .before .before .before .before .before .before .before .before .before .before .before .before .before .before .before .args in
     let e = contextFrom (a .sheet .now) (a .types .now) (a .ops .now) (a .bytes .now) (a .ends .now) in
-    let x = function-large (optionsOf (a .offsets) (a .labels) (a .texts)) (a .functions .now) (a .area .now) (a .base) (a .id) (a .lent) e (a .last) (inside (c .before .before .before .before .before .before .before .before .before .before)) (omega (arith, c .before .before .before .before .if2 .taken, c .before .before .before .before .before .wide3 .ensures .0)) in
+    let x = function-large (optionsOf (a .options)) (a .functions .now) (a .area .now) (a .base) (a .id) (a .lent) e (a .last) (inside (c .before .before .before .before .before .before .before .before .before .before)) (omega (arith, c .before .before .before .before .if2 .taken, c .before .before .before .before .before .wide3 .ensures .0)) in
     refused-end _ _ 18 0 0 _ _ x refl (c .before .before .clear .ensures)
 
 part-of-requires : tie.Need-part-of-requires
@@ -91,7 +91,7 @@ returns-2 c =
     let a = c .before .before .before .before .before .before .before .before .before .before .before .before .before .before .before .before .before .before .before .args in
     let e = contextFrom (a .sheet .now) (a .types .now) (a .ops .now) (a .bytes .now) (a .ends .now) in
     let b = rw (c .before .before .before .before .before .before .wide3 .ensures .0, c .before .before .before .before .before .before .before .before .wide2 .ensures .0, c .before .before .before .before .before .before .before .before .before .wide .ensures .0) at (c .before .before .before .before .part-of .ensures) in
-    function-body (optionsOf (a .offsets) (a .labels) (a .texts)) (a .functions .now) (a .area .now) (a .base) (a .id) (a .lent) e (a .last) (inside (c .before .before .before .before .before .before .before .before .before .before .before)) (omega (arith, c .before .before .before .before .before .if2 .left, c .before .before .before .before .before .before .wide3 .ensures .0)) b (c .before .before .list-under .ensures)
+    function-body (optionsOf (a .options)) (a .functions .now) (a .area .now) (a .base) (a .id) (a .lent) e (a .last) (inside (c .before .before .before .before .before .before .before .before .before .before .before)) (omega (arith, c .before .before .before .before .before .if2 .left, c .before .before .before .before .before .before .wide3 .ensures .0)) b (c .before .before .list-under .ensures)
 
 clear-requires-2 : tie.Need-clear-requires-2
 clear-requires-2 c κs = search needs
@@ -104,7 +104,7 @@ unfolding listReport
 returns-3 c =
     let a = c .before .before .before .before .before .before .before .before .before .before .before .before .args in
     let e = contextFrom (a .sheet .now) (a .types .now) (a .ops .now) (a .bytes .now) (a .ends .now) in
-    let x = function-none (optionsOf (a .offsets) (a .labels) (a .texts)) (a .functions .now) (a .area .now) (a .base) (a .id) (a .lent) e (a .last) (sym (c .before .before .before .before .before .in-area .ensures) ∙ c .before .before .before .before .if1 .left) in
+    let x = function-none (optionsOf (a .options)) (a .functions .now) (a .area .now) (a .base) (a .id) (a .lent) e (a .last) (sym (c .before .before .before .before .before .in-area .ensures) ∙ c .before .before .before .before .if1 .left) in
     refused-end _ _ 20 (a .id) 0 _ _ x refl (c .before .before .clear2 .ensures)
 
 pub function-under-spec : {M : Type 1} → statement M

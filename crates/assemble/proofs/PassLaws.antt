@@ -38,9 +38,9 @@ unfolding assembleText assembleCodes
 good-text e text l n = l _ ∙ n _
 
 -- what the search for a label asks for
-pub labels-known : {text source heads nexts : List ℕ} {types ops slots held : List (List ℕ)} {count : ℕ} (fits : Bool) → NamesIndexed source ops heads nexts → length text ≤ 1048576
-    → NamesGood source types ops text count slots → (fits ≡ true → count ≤ length slots) → (count ≤ length slots → held ≡ take count slots) → LabelsKnown text source types ops heads nexts held fits
-labels-known fits i l n f h = (
+pub labels-known : {text source : List ℕ} (names : List ℕ) {types ops slots held : List (List ℕ)} {count : ℕ} (fits : Bool) → NamesIndexed source ops names → length text ≤ 1048576
+    → NamesGood source types ops text count slots → (fits ≡ true → count ≤ length slots) → (count ≤ length slots → held ≡ take count slots) → LabelsKnown text source types ops names held fits
+labels-known names fits i l n f h = (
   (i, l),
   λ bytes ends. record {
     named = n bytes ends .named;

@@ -14,6 +14,6 @@ abbrev pub labelsOf : Context → List ℕ → List ℕ → Found
 labelsOf e text = labelOffset (labelsFrom e 0 (codesOf e text))
 
 -- what a search for a label asks for: an index of the names, and what is known of the text and of the label list
-abbrev pub LabelsKnown : List ℕ → List ℕ → List (List ℕ) → List (List ℕ) → List ℕ → List ℕ → List (List ℕ) → Bool → Type 0
-LabelsKnown text sheet types ops heads nexts labels fits =
-    (NamesIndexed sheet ops heads nexts × (length text ≤ 1048576)) × ((bytes ends : List ℕ) → Labelled (contextFrom sheet types ops bytes ends) text labels fits)
+abbrev pub LabelsKnown : List ℕ → List ℕ → List (List ℕ) → List (List ℕ) → List ℕ → List (List ℕ) → Bool → Type 0
+LabelsKnown text sheet types ops names labels fits =
+    (NamesIndexed sheet ops names × (length text ≤ 1048576)) × ((bytes ends : List ℕ) → Labelled (contextFrom sheet types ops bytes ends) text labels fits)

@@ -27,15 +27,14 @@ pub fn put_instructions(
     sheet: &[u8],
     types: &[[u8; 8]; 256],
     ops: &[[usize; 4]; 256],
-    heads: &[u32],
-    nexts: &[u32],
+    names: &[u32],
     labels: &[Slot],
     fits: bool,
     work: &mut [u8],
     out: &mut [u8],
 ) -> Bytes
     requires { ⌜ TextsIndexed (now bytes) (now ends) (now «text_heads») (now «text_nexts») × (lineLimit ≤ length (now work)) ⌝ }
-    requires { ⌜ LabelsKnown (now text) (now sheet) (now types) (now ops) (now heads) (now nexts) (now labels) fits ⌝ }
+    requires { ⌜ LabelsKnown (now text) (now sheet) (now types) (now ops) (now names) (now labels) fits ⌝ }
     requires { ⌜ ((rest : Assembled) → unlessBadLine 1 (linesOf (now text)) rest ≡ rest) ⌝ }
     ensures { λ r. ⌜ BytesPut (bytesFrom (contextFrom (now (sheet .entry)) (now (types .entry)) (now (ops .entry)) (now (bytes .entry)) (now (ends .entry))) (labelsOf (contextFrom (now (sheet .entry)) (now (types .entry)) (now (ops .entry)) (now (bytes .entry)) (now (ends .entry))) (now (text .entry))) 0 (codesOf (contextFrom (now (sheet .entry)) (now (types .entry)) (now (ops .entry)) (now (bytes .entry)) (now (ends .entry))) (now (text .entry)))) (now (out .entry)) (now (out .exit)) r ⌝ }
 {
@@ -57,8 +56,7 @@ pub fn put_instructions(
             sheet,
             types,
             ops,
-            heads,
-            nexts,
+            names,
             labels,
             fits,
             work,

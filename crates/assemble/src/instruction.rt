@@ -49,8 +49,7 @@ pub fn put_instruction(
     sheet: &[u8],
     types: &[[u8; 8]; 256],
     ops: &[[usize; 4]; 256],
-    heads: &[u32],
-    nexts: &[u32],
+    names: &[u32],
     labels: &[Slot],
     fits: bool,
     work: &mut [u8],
@@ -58,12 +57,12 @@ pub fn put_instruction(
     k: usize,
 ) -> Progress
     requires { ⌜ TextsIndexed (now bytes) (now ends) (now «text_heads») (now «text_nexts») × (length (now s) ≤ lineLimit) × (lineLimit ≤ length (now work)) ⌝ }
-    requires { ⌜ (offset < 2147483648) × LabelsKnown (now text) (now sheet) (now types) (now ops) (now heads) (now nexts) (now labels) fits ⌝ }
+    requires { ⌜ (offset < 2147483648) × LabelsKnown (now text) (now sheet) (now types) (now ops) (now names) (now labels) fits ⌝ }
     ensures { λ r. ⌜ InstructionPut (contextFrom (now (sheet .entry)) (now (types .entry)) (now (ops .entry)) (now (bytes .entry)) (now (ends .entry))) (labelsOf (contextFrom (now (sheet .entry)) (now (types .entry)) (now (ops .entry)) (now (bytes .entry)) (now (ends .entry))) (now (text .entry))) (now (s .entry)) offset (now (out .entry)) k (now (out .exit)) r ⌝ }
     ensures { λ r. ⌜ r .offset ≤ offset + 65 ⌝ }
 {
     let n = hasm_read::white_space::skip(s, 0, false);
-    let opcode = opcode_in(sheet::name_index::find_indexed(sheet, ops, heads, nexts, &s[0..n]));
+    let opcode = opcode_in(sheet::name_index::find_indexed(sheet, ops, names, &s[0..n]));
     // An opcode that was found has a row, so this test only shows that it is below 256.
     let rows: &[[usize; 4]] = ops;
     if rows.len() <= opcode {
@@ -90,8 +89,7 @@ pub fn put_instruction(
         sheet,
         types,
         ops,
-        heads,
-        nexts,
+        names,
         labels,
         fits,
         work,
@@ -129,8 +127,7 @@ pub fn put_line(
     sheet: &[u8],
     types: &[[u8; 8]; 256],
     ops: &[[usize; 4]; 256],
-    heads: &[u32],
-    nexts: &[u32],
+    names: &[u32],
     labels: &[Slot],
     fits: bool,
     work: &mut [u8],
@@ -138,12 +135,12 @@ pub fn put_line(
     k: usize,
 ) -> Progress
     requires { ⌜ TextsIndexed (now bytes) (now ends) (now «text_heads») (now «text_nexts») × (lineLimit ≤ length (now work)) ⌝ }
-    requires { ⌜ LineAt (now text) at end offset × LabelsKnown (now text) (now sheet) (now types) (now ops) (now heads) (now nexts) (now labels) fits ⌝ }
+    requires { ⌜ LineAt (now text) at end offset × LabelsKnown (now text) (now sheet) (now types) (now ops) (now names) (now labels) fits ⌝ }
     ensures { λ r. ⌜ ((out₀ : List ℕ) (n : ℕ) → Going (contextFrom (now (sheet .entry)) (now (types .entry)) (now (ops .entry)) (now (bytes .entry)) (now (ends .entry))) (labelsOf (contextFrom (now (sheet .entry)) (now (types .entry)) (now (ops .entry)) (now (bytes .entry)) (now (ends .entry))) (now (text .entry))) (now (text .entry)) out₀ (now (out .entry)) k at n offset → Turned (contextFrom (now (sheet .entry)) (now (types .entry)) (now (ops .entry)) (now (bytes .entry)) (now (ends .entry))) (labelsOf (contextFrom (now (sheet .entry)) (now (types .entry)) (now (ops .entry)) (now (bytes .entry)) (now (ends .entry))) (now (text .entry))) (now (text .entry)) out₀ (now (out .exit)) (end + 1) n r) ⌝ }
     ensures { λ r. ⌜ r .offset ≤ offset + 65 ⌝ }
 {
     let line = hasm_read::lines::line_of(text, at, end);
-    let statement = hasm_read::statement::read_statement(line, sheet, ops, heads, nexts);
+    let statement = hasm_read::statement::read_statement(line, sheet, ops, names);
     match statement {
         Statement::Nothing => Progress {
             k,
@@ -170,8 +167,7 @@ pub fn put_line(
             sheet,
             types,
             ops,
-            heads,
-            nexts,
+            names,
             labels,
             fits,
             work,

@@ -40,8 +40,7 @@ pub fn put_operands(
     sheet: &[u8],
     types: &[[u8; 8]; 256],
     ops: &[[usize; 4]; 256],
-    heads: &[u32],
-    nexts: &[u32],
+    names: &[u32],
     labels: &[Slot],
     fits: bool,
     work: &mut [u8],
@@ -49,7 +48,7 @@ pub fn put_operands(
     k: usize,
 ) -> Operands
     requires { ⌜ TextsIndexed (now bytes) (now ends) (now «text_heads») (now «text_nexts») × (length (now s) ≤ lineLimit) × (lineLimit ≤ length (now work)) ⌝ }
-    requires { ⌜ (offset < 2 ^ 32) × LabelsKnown (now text) (now sheet) (now types) (now ops) (now heads) (now nexts) (now labels) fits ⌝ }
+    requires { ⌜ (offset < 2 ^ 32) × LabelsKnown (now text) (now sheet) (now types) (now ops) (now names) (now labels) fits ⌝ }
     ensures { λ r. ⌜ OperandsPut (operandsFrom (contextFrom (now (sheet .entry)) (now (types .entry)) (now (ops .entry)) (now (bytes .entry)) (now (ends .entry))) (labelsOf (contextFrom (now (sheet .entry)) (now (types .entry)) (now (ops .entry)) (now (bytes .entry)) (now (ends .entry))) (now (text .entry))) offset 1 row (tokens (splitOutside (now (s .entry))))) (now (out .entry)) k (now (out .exit)) r ⌝ }
 {
     let mut n = k;
@@ -74,8 +73,7 @@ pub fn put_operands(
             sheet,
             types,
             ops,
-            heads,
-            nexts,
+            names,
             labels,
             fits,
             work,

@@ -18,8 +18,8 @@ use hasm_read::lines::Checked;
 use slices::write::clear;
 
 // Space for the index of names. No contract, since what fills it says what it leaves.
-fn name_heads() -> [u32; 1024] {
-    [0; 1024]
+fn name_space() -> [u32; sheet::name_index::NAME_INDEX] {
+    [0; sheet::name_index::NAME_INDEX]
 }
 
 // The labels that are held, where all of them fit.
@@ -40,8 +40,7 @@ fn put_indexed(
     sheet: &[u8],
     types: &[[u8; 8]; 256],
     ops: &[[usize; 4]; 256],
-    heads: &[u32],
-    nexts: &[u32],
+    names: &[u32],
     bytes: &[u8],
     ends: &[u32],
     text: &[u8],
@@ -49,7 +48,7 @@ fn put_indexed(
     labels: &[Slot],
     out: &mut [u8],
 ) -> AssembleAnswer
-    requires { ⌜ IdSpace (now «first_ids») (now «next_ids») (now ends) × (length (now text) ≤ textLimit) × NamesIndexed (now sheet) (now ops) (now heads) (now nexts) ⌝ }
+    requires { ⌜ IdSpace (now «first_ids») (now «next_ids») (now ends) × (length (now text) ≤ textLimit) × NamesIndexed (now sheet) (now ops) (now names) ⌝ }
     requires { ⌜ NamesGood (now sheet) (now types) (now ops) (now text) count (now labels) × ((rest : Assembled) → unlessBadLine 1 (linesOf (now text)) rest ≡ rest) ⌝ }
     ensures { λ r. ⌜ Ended (textOutcome (contextFrom (now (sheet .entry)) (now (types .entry)) (now (ops .entry)) (now (bytes .entry)) (now (ends .entry))) (now (text .entry)) (length (now (labels .entry)))) (now (out .entry)) (now (out .exit)) r ⌝ }
 {
@@ -66,8 +65,7 @@ fn put_indexed(
         sheet,
         types,
         ops,
-        heads,
-        nexts,
+        names,
         held,
         fits,
         &mut work,
@@ -102,19 +100,9 @@ fn name_and_put(
     requires { ⌜ ((rest : Assembled) → unlessBadLine 1 (linesOf (now text)) rest ≡ rest) ⌝ }
     ensures { λ r. ⌜ Ended (textOutcome (contextFrom (now (sheet .entry)) (now (types .entry)) (now (ops .entry)) (now (bytes .entry)) (now (ends .entry))) (now (text .entry)) (length (now (labels .entry)))) (now (out .entry)) (now (out .exit)) r ⌝ }
 {
-    let mut heads = name_heads();
-    let mut nexts = [0u32; 256];
-    sheet::name_index::index_names(sheet, ops, &mut heads, &mut nexts);
-    let n = hasm_labels::names_pass::read_names(
-        text,
-        sheet,
-        types,
-        ops,
-        &heads,
-        &nexts,
-        labels,
-        b"",
-    );
+    let mut names = name_space();
+    sheet::name_index::index_names(sheet, ops, &mut names);
+    let n = hasm_labels::names_pass::read_names(text, sheet, types, ops, &names, labels, b"");
     match n {
         Names::Good(count, _, _) => put_indexed(
             first_ids,
@@ -122,8 +110,7 @@ fn name_and_put(
             sheet,
             types,
             ops,
-            &heads,
-            &nexts,
+            &names,
             bytes,
             ends,
             text,

@@ -66,19 +66,18 @@ fn target_distance(
     sheet: &[u8],
     types: &[[u8; 8]; 256],
     ops: &[[usize; 4]; 256],
-    heads: &[u32],
-    nexts: &[u32],
+    names: &[u32],
     labels: &[Slot],
     fits: bool,
 ) -> Value
-    requires { ⌜ (offset < 2 ^ 32) × LabelsKnown (now text) (now sheet) (now types) (now ops) (now heads) (now nexts) (now labels) fits ⌝ }
+    requires { ⌜ (offset < 2 ^ 32) × LabelsKnown (now text) (now sheet) (now types) (now ops) (now names) (now labels) fits ⌝ }
     ensures { λ r. ⌜ ((bytes ends : List ℕ) → r ≡ tokenAnswer (distanceTo width offset (targetIn (labelsOf (contextFrom (now (sheet .entry)) (now (types .entry)) (now (ops .entry)) bytes ends) (now (text .entry))) (now (t .entry))))) ⌝ }
 {
     let target = target_in(t);
     match target {
         Target::Offset(n) => distance_to(width, offset as u64, n),
         Target::Label => {
-            let label = label_offset(text, sheet, types, ops, heads, nexts, labels, fits, t);
+            let label = label_offset(text, sheet, types, ops, names, labels, fits, t);
             label_distance(width, offset, label)
         }
         Target::Bad => Value::Refused(7),
@@ -98,14 +97,13 @@ pub fn operand_value(
     sheet: &[u8],
     types: &[[u8; 8]; 256],
     ops: &[[usize; 4]; 256],
-    heads: &[u32],
-    nexts: &[u32],
+    names: &[u32],
     labels: &[Slot],
     fits: bool,
     work: &mut [u8],
 ) -> Value
     requires { ⌜ TextsIndexed (now bytes) (now ends) (now «text_heads») (now «text_nexts») × (length (now t) ≤ length (now work)) ⌝ }
-    requires { ⌜ (offset < 2 ^ 32) × LabelsKnown (now text) (now sheet) (now types) (now ops) (now heads) (now nexts) (now labels) fits ⌝ }
+    requires { ⌜ (offset < 2 ^ 32) × LabelsKnown (now text) (now sheet) (now types) (now ops) (now names) (now labels) fits ⌝ }
     ensures { λ r. ⌜ r ≡ tokenAnswer (tokenValue (now (bytes .entry)) (now (ends .entry)) (labelsOf (contextFrom (now (sheet .entry)) (now (types .entry)) (now (ops .entry)) (now (bytes .entry)) (now (ends .entry))) (now (text .entry))) offset code (now (t .entry))) ⌝ }
 {
     let family = sheet::operand_types::family(code);
@@ -119,8 +117,7 @@ pub fn operand_value(
             sheet,
             types,
             ops,
-            heads,
-            nexts,
+            names,
             labels,
             fits,
         );

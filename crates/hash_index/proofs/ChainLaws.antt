@@ -1,14 +1,14 @@
 -- Laws of an index of chains: how it is built from the last index down, and how a chain is walked. Assumes nothing.
 use mathlib.Core.Path.{_≡_, refl, sym, ap, _∙_}
-use mathlib.Core.List.{List}
+use mathlib.Core.List.{List, _++_}
 use Prim.Native.Nat.{ℕ, zero, suc, _+_, _-_, _≤_, _<_}
 use native.Mathlib.Numerals.{add-one}
 use native.Mathlib.Omega.{arith}
 use borrow.Author.Tests.{eq-eqb, ne-eqb}
-use lib.ListN.{length, getD, set, replicate, length-set, length-replicate, getD-replicate}
-use lib.Seq.{getD-set-same, getD-set-other}
+use lib.ListN.{length, take, drop, getD, set, replicate, length-set, length-take, length-drop, length-replicate, getD-replicate}
+use lib.Seq.{getD-set-same, getD-set-other, getD-take, getD-drop, take-at, drop-at, take-set-lt, take-set-le, drop-set-lt, drop-set-add}
 use Rattle.lists.proofs.Tests.{by-eqb}
-use Rattle.hash_index.specs.Chain.{firstFrom, firstWith, Chained, Walk}
+use Rattle.hash_index.specs.Chain.{firstFrom, firstWith, Chained, ChainedIn, Walk}
 
 module _ (hash : ℕ → ℕ) (h : ℕ) where
   -- the clauses, by their test
@@ -110,6 +110,25 @@ module _ (hash : ℕ → ℕ) (buckets n j k h : ℕ) (heads nexts heads′ next
         (λ z. rw (p, getD-set-other nexts k i (getD heads h 0) 0 z) (c .next-of i (omega (arith, z, s)) o));
   }
 
+-- both, where one list has the heads in front of the nexts
+module _ (hash : ℕ → ℕ) (buckets n : ℕ) (index index′ : List ℕ) where
+  pub in-none : index′ ≡ replicate buckets n ++ drop buckets index → buckets + n ≤ length index → ChainedIn hash buckets n n index′
+  in-none e l =
+      let front = replicate buckets n in
+      let rest = drop buckets index in
+      let z : drop buckets index′ ≡ rest = rw e (drop-at front rest buckets (length-replicate buckets n)) in
+      chained-none hash buckets n (take buckets index′) (drop buckets index′)
+      (rw e (take-at front rest buckets (length-replicate buckets n)))
+      (rw z (omega (arith, length-drop buckets index)))
+
+  pub in-more : (j k h : ℕ) → ChainedIn hash buckets n j index → j ≡ k + 1 → k < n → h ≡ hash k → h < buckets → index′ ≡ set (set index (buckets + k) (getD index h 0)) h k → ChainedIn hash buckets n k index′
+  in-more j k h c s l e b q =
+      let v = getD index h 0 in
+      let more = set index (buckets + k) v in
+      chained-more hash buckets n j k h (take buckets index) (drop buckets index) (take buckets index′) (drop buckets index′) c s l e b
+      (rw (q, drop-set-lt buckets more h k b, drop-set-add buckets index k v, getD-take buckets index h 0 b) refl)
+      (rw (q, take-set-lt buckets more h k b, take-set-le buckets index (buckets + k) v (omega arith)) refl)
+
 -- every step of a walk goes on, so that it ends
 pub chain-rises : (hash : ℕ → ℕ) (buckets n : ℕ) (heads nexts : List ℕ) → Chained hash buckets n 0 heads nexts → (i : ℕ) → i < n → i < getD nexts i 0
 chain-rises hash buckets n heads nexts c i l = rw (c .next-of i (omega arith) l) (omega (arith, first-least hash (hash i) n (i + 1)))
@@ -125,3 +144,21 @@ module _ {A : Type 0} (hash : ℕ → ℕ) (buckets n h : ℕ) (heads nexts : Li
   pub walk-next : (i : ℕ) → Walk hash n h answer i → i < n → answer i ≡ answer (i + 1) → Walk hash n h answer (getD nexts i 0)
   walk-next i w l e =
       rw (c .next-of i (omega arith) l, w .in-chain l) (on-from (i + 1) (omega arith) (w .same-answer ∙ e))
+
+-- the same where one list has the heads in front of the nexts
+module _ (hash : ℕ → ℕ) (buckets n : ℕ) (index : List ℕ) (c : ChainedIn hash buckets n 0 index) where
+  pub in-room : buckets + n ≤ length index
+  in-room = omega (arith, c .bucket-count, c .room, length-take buckets index, length-drop buckets index)
+
+  pub in-rises : (i : ℕ) → i < n → i < getD index (buckets + i) 0
+  in-rises i l =
+      rw (getD-drop buckets index i 0) at (chain-rises hash buckets n (take buckets index) (drop buckets index) c i l)
+
+  module _ {A : Type 0} (h : ℕ) (answer : ℕ → A) (b : h < buckets) (f : (i : ℕ) → i < n → (hash i ≡ h → ⊥) → answer i ≡ answer (i + 1)) where
+    pub in-start : Walk hash n h answer (getD index h 0)
+    in-start =
+        rw (getD-take buckets index h 0 b) at (walk-start hash buckets n h (take buckets index) (drop buckets index) answer c b f)
+
+    pub in-next : (i : ℕ) → Walk hash n h answer i → i < n → answer i ≡ answer (i + 1) → Walk hash n h answer (getD index (buckets + i) 0)
+    in-next i w l e =
+        rw (getD-drop buckets index i 0) at (walk-next hash buckets n h (take buckets index) (drop buckets index) answer c b f i w l e)

@@ -4,7 +4,7 @@ use Prim.Native.Nat.{ℕ, zero, suc, _+_, _-_, _≤_, _<_}
 use mathlib.Core.Path.{_≡_}
 use mathlib.Core.List.{List}
 use lib.Dec.{eqb}
-use lib.ListN.{length, getD}
+use lib.ListN.{length, take, drop, getD}
 use Rattle.lists.specs.Choice.{pick}
 
 -- the first of m indexes from k on that has a hash, or the index behind them
@@ -23,6 +23,10 @@ pub record Chained (hash : ℕ → ℕ) (buckets n k : ℕ) (heads nexts : List 
   pub room : n ≤ length nexts
   pub head-of : (h : ℕ) → h < buckets → getD heads h 0 ≡ firstWith hash h n k
   pub next-of : (i : ℕ) → k ≤ i → i < n → getD nexts i 0 ≡ firstWith hash (hash i) n (i + 1)
+
+-- the same in one list: the buckets' heads, and behind them the nexts
+abbrev pub ChainedIn : (ℕ → ℕ) → ℕ → ℕ → ℕ → List ℕ → Type 0
+ChainedIn hash buckets n k index = Chained hash buckets n k (take buckets index) (drop buckets index)
 
 -- a search that looks at every index answers from k on what `answer k` says; one that walks the chain of a hash has come
 -- to index i, which has that hash where it is below n, and answers the same from there on

@@ -17,14 +17,13 @@ pub fn read_name(
     sheet: &[u8],
     types: &[[u8; 8]; 256],
     ops: &[[usize; 4]; 256],
-    heads: &[u32],
-    nexts: &[u32],
+    names: &[u32],
 ) -> Named
-    requires { ⌜ NamesIndexed (now sheet) (now ops) (now heads) (now nexts) ⌝ }
+    requires { ⌜ NamesIndexed (now sheet) (now ops) (now names) ⌝ }
     ensures { λ r. ⌜ ((bytes ends : List ℕ) → NameRead (record { sheet = now (sheet .entry); types = now (types .entry); infos = now (ops .entry); bytes = bytes; ends = ends }) (now (s .entry)) r) ⌝ }
 {
     let k = hasm_read::white_space::skip(s, 0, false);
-    let found = sheet::name_index::find_indexed(sheet, ops, heads, nexts, &s[0..k]);
+    let found = sheet::name_index::find_indexed(sheet, ops, names, &s[0..k]);
     let Found::At(opcode) = found else {
         return Named::Unknown;
     };

@@ -18,13 +18,12 @@ pub fn label_offset(
     sheet: &[u8],
     types: &[[u8; 8]; 256],
     ops: &[[usize; 4]; 256],
-    heads: &[u32],
-    nexts: &[u32],
+    names: &[u32],
     labels: &[Slot],
     fits: bool,
     t: &[u8],
 ) -> Found
-    requires { ⌜ NamesIndexed (now sheet) (now ops) (now heads) (now nexts) ⌝ }
+    requires { ⌜ NamesIndexed (now sheet) (now ops) (now names) ⌝ }
     requires { ⌜ length (now text) ≤ textLimit ⌝ }
     requires { ⌜ ((bytes ends : List ℕ) → Labelled (record { sheet = now sheet; types = now types; infos = now ops; bytes = bytes; ends = ends }) (now text) (now labels) fits) ⌝ }
     ensures { λ r. ⌜ ((bytes ends : List ℕ) → r ≡ foundOf (labelOffset (labelsFrom (record { sheet = now (sheet .entry); types = now (types .entry); infos = now (ops .entry); bytes = bytes; ends = ends }) 0 (codesOf (record { sheet = now (sheet .entry); types = now (types .entry); infos = now (ops .entry); bytes = bytes; ends = ends }) (now (text .entry)))) (now (t .entry)))) ⌝ }
@@ -33,7 +32,7 @@ pub fn label_offset(
         return crate::find_label::find_label(text, labels, t);
     }
     let mut none: [Slot; 0] = [];
-    let read = crate::names_pass::read_names(text, sheet, types, ops, heads, nexts, &mut none, t);
+    let read = crate::names_pass::read_names(text, sheet, types, ops, names, &mut none, t);
     let Names::Good(_, has, offset) = read else {
         return Found::Missing;
     };

@@ -22,12 +22,11 @@ pub fn read_names(
     sheet: &[u8],
     types: &[[u8; 8]; 256],
     ops: &[[usize; 4]; 256],
-    heads: &[u32],
-    nexts: &[u32],
+    names: &[u32],
     labels: &mut [Slot],
     t: &[u8],
 ) -> Names
-    requires { ⌜ NamesIndexed (now sheet) (now ops) (now heads) (now nexts) ⌝ }
+    requires { ⌜ NamesIndexed (now sheet) (now ops) (now names) ⌝ }
     requires { ⌜ length (now text) ≤ textLimit ⌝ }
     ensures { λ r. ⌜ ((bytes ends : List ℕ) → NamesRead (record { sheet = now (sheet .entry); types = now (types .entry); infos = now (ops .entry); bytes = bytes; ends = ends }) (now (text .entry)) (now (t .entry)) (now (labels .exit)) r) ⌝ }
 {
@@ -45,19 +44,7 @@ pub fn read_names(
     let mut n: usize = 1;
     while at < text.len() {
         let end = hasm_read::lines::line_end(text, at);
-        p = crate::take_line::take_line(
-            text,
-            at,
-            end,
-            sheet,
-            types,
-            ops,
-            heads,
-            nexts,
-            labels,
-            t,
-            p,
-        );
+        p = crate::take_line::take_line(text, at, end, sheet, types, ops, names, labels, t, p);
         let refusal = p.refusal;
         if refusal == 4 {
             return Names::Unknown(n);

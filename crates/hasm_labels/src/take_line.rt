@@ -32,18 +32,17 @@ fn take_code(
     sheet: &[u8],
     types: &[[u8; 8]; 256],
     ops: &[[usize; 4]; 256],
-    heads: &[u32],
-    nexts: &[u32],
+    names: &[u32],
     text: &[u8],
     labels: &mut [Slot],
     t: &[u8],
     p: Progress,
 ) -> Progress
-    requires { ⌜ NamesIndexed (now sheet) (now ops) (now heads) (now nexts) ⌝ }
+    requires { ⌜ NamesIndexed (now sheet) (now ops) (now names) ⌝ }
     requires { ⌜ Small p ⌝ }
     ensures { λ r. ⌜ ((bytes ends : List ℕ) → CodeTaken (record { sheet = now (sheet .entry); types = now (types .entry); infos = now (ops .entry); bytes = bytes; ends = ends }) (now (s .entry)) (now (text .entry)) (now (t .entry)) (now (labels .entry)) p (now (labels .exit)) r) ⌝ }
 {
-    let named = crate::instruction_name::read_name(s, sheet, types, ops, heads, nexts);
+    let named = crate::instruction_name::read_name(s, sheet, types, ops, names);
     match named {
         Named::Size(size) => {
             let q = crate::hold_label::hold_label(text, labels, t, p);
@@ -71,18 +70,17 @@ pub fn take_line(
     sheet: &[u8],
     types: &[[u8; 8]; 256],
     ops: &[[usize; 4]; 256],
-    heads: &[u32],
-    nexts: &[u32],
+    names: &[u32],
     labels: &mut [Slot],
     t: &[u8],
     p: Progress,
 ) -> Progress
-    requires { ⌜ NamesIndexed (now sheet) (now ops) (now heads) (now nexts) ⌝ }
+    requires { ⌜ NamesIndexed (now sheet) (now ops) (now names) ⌝ }
     requires { ⌜ LineAt (now text) at end p ⌝ }
     ensures { λ r. ⌜ ((bytes ends : List ℕ) (n : ℕ) → Going (record { sheet = now (sheet .entry); types = now (types .entry); infos = now (ops .entry); bytes = bytes; ends = ends }) (now (text .entry)) (now (t .entry)) at n p (now (labels .entry)) → Turned (record { sheet = now (sheet .entry); types = now (types .entry); infos = now (ops .entry); bytes = bytes; ends = ends }) (now (text .entry)) (now (t .entry)) (end + 1) n r (now (labels .exit))) ⌝ }
 {
     let line = hasm_read::lines::line_of(text, at, end);
-    let statement = hasm_read::statement::read_statement(line, sheet, ops, heads, nexts);
+    let statement = hasm_read::statement::read_statement(line, sheet, ops, names);
     match statement {
         Statement::Nothing => p,
         Statement::Label(a, m) => Progress {
@@ -96,18 +94,7 @@ pub fn take_line(
             refusal: 0,
         },
         Statement::Instruction(a, b) => {
-            take_code(
-                &line[a..b],
-                sheet,
-                types,
-                ops,
-                heads,
-                nexts,
-                text,
-                labels,
-                t,
-                p,
-            )
+            take_code(&line[a..b], sheet, types, ops, names, text, labels, t, p)
         }
     }
 }

@@ -60,14 +60,8 @@ fn is_letter_at(s: &[u8], i: usize) -> bool
 }
 
 // Where the instruction starts: behind an offset, or 0. The search for the name comes last, as it costs most.
-pub fn behind_offset(
-    s: &[u8],
-    sheet: &[u8],
-    ops: &[[usize; 4]; 256],
-    heads: &[u32],
-    nexts: &[u32],
-) -> usize
-    requires { ⌜ NamesIndexed (now sheet) (now ops) (now heads) (now nexts) ⌝ }
+pub fn behind_offset(s: &[u8], sheet: &[u8], ops: &[[usize; 4]; 256], names: &[u32]) -> usize
+    requires { ⌜ NamesIndexed (now sheet) (now ops) (now names) ⌝ }
     ensures { λ r. ⌜ ((types : List (List ℕ)) (bytes ends : List ℕ) → behindOffset (record { sheet = now (sheet .entry); types = types; infos = now (ops .entry); bytes = bytes; ends = ends }) (now (s .entry)) ≡ drop r (now (s .entry))) × (r ≤ length (now (s .entry))) ⌝ }
 {
     let m = prefix_length(s);
@@ -82,7 +76,7 @@ pub fn behind_offset(
     if !is_letter_at(s, a) {
         return 0;
     }
-    let found = sheet::name_index::find_indexed(sheet, ops, heads, nexts, &s[m..k]);
+    let found = sheet::name_index::find_indexed(sheet, ops, names, &s[m..k]);
     match found {
         Found::At(_) => 0,
         Found::Missing => a,

@@ -18,10 +18,9 @@ pub fn read_statement(
     line: &[u8],
     sheet: &[u8],
     ops: &[[usize; 4]; 256],
-    heads: &[u32],
-    nexts: &[u32],
+    names: &[u32],
 ) -> Statement
-    requires { ⌜ NamesIndexed (now sheet) (now ops) (now heads) (now nexts) ⌝ }
+    requires { ⌜ NamesIndexed (now sheet) (now ops) (now names) ⌝ }
     ensures { λ r. ⌜ ((types : List (List ℕ)) (bytes ends : List ℕ) → StatementIn (statementOf (record { sheet = now (sheet .entry); types = types; infos = now (ops .entry); bytes = bytes; ends = ends }) (now (line .entry))) (now (line .entry)) r) ⌝ }
 {
     let c = crate::comment::comment_start(line);
@@ -35,6 +34,6 @@ pub fn read_statement(
         let size = n - 1;
         return Statement::Label(a, size);
     }
-    let k = crate::line_offset::behind_offset(s, sheet, ops, heads, nexts);
+    let k = crate::line_offset::behind_offset(s, sheet, ops, names);
     Statement::Instruction(a + k, a + n)
 }

@@ -13,7 +13,7 @@ use Rattle.slices.specs.declared.search.Found.the-variants.{At, Missing}
 use Rattle.spec_sheet.specs.Sheet.{hasName, findName}
 use Rattle.spec_sheet.proofs.NameLaws.{find-end, find-here, find-next}
 use Rattle.hash_index.specs.Chain.{Walk}
-use Rattle.hash_index.proofs.ChainLaws.{walk-start, walk-next}
+use Rattle.hash_index.proofs.ChainLaws.{in-start, in-next}
 use Rattle.sheet.specs.Keys.{bucketOf, bucketAt, NamesIndexed, nameFrom}
 
 -- an opcode that has a name is in the name's bucket
@@ -31,13 +31,13 @@ module _ (s name : List ℕ) (rows : List (List ℕ)) (h : ℕ) (e : h ≡ bucke
       find-next s name rows i
       (by-test (hasName s name (getD rows i [])) (λ t. absurd (z (in-bucket s name rows i t ∙ sym e))) (λ t. t))
 
-  module _ (heads nexts : List ℕ) (c : NamesIndexed s rows heads nexts) (b : h < 1024) where
-    pub name-start : Walk (bucketAt s rows) 256 h (nameFrom s name rows) (getD heads h 0)
-    name-start = walk-start (bucketAt s rows) 1024 256 h heads nexts (nameFrom s name rows) c b passed
+  module _ (index : List ℕ) (c : NamesIndexed s rows index) (b : h < 1024) where
+    pub name-start : Walk (bucketAt s rows) 256 h (nameFrom s name rows) (getD index h 0)
+    name-start = in-start (bucketAt s rows) 1024 256 index c h (nameFrom s name rows) b passed
 
     -- behind an opcode with another name
-    pub name-next : (k : ℕ) → Walk (bucketAt s rows) 256 h (nameFrom s name rows) k → k < 256 → hasName s name (getD rows k []) ≡ false → Walk (bucketAt s rows) 256 h (nameFrom s name rows) (getD nexts k 0)
-    name-next k w l t = walk-next (bucketAt s rows) 1024 256 h heads nexts (nameFrom s name rows) c b passed k w l (find-next s name rows k t)
+    pub name-next : (k : ℕ) → Walk (bucketAt s rows) 256 h (nameFrom s name rows) k → k < 256 → hasName s name (getD rows k []) ≡ false → Walk (bucketAt s rows) 256 h (nameFrom s name rows) (getD index (1024 + k) 0)
+    name-next k w l t = in-next (bucketAt s rows) 1024 256 index c h (nameFrom s name rows) b passed k w l (find-next s name rows k t)
 
 -- the opcode that has the name, and the end of the chain
 module _ (s name : List ℕ) (rows : List (List ℕ)) (h k : ℕ) (w : Walk (bucketAt s rows) 256 h (nameFrom s name rows) k) where

@@ -5,14 +5,11 @@ use borrow.Author.Needs.{needs}
 use Rattle.assemble.proofs.passes.name_and_put.Statement.{statement}
 use Rattle.assemble.proofs.passes.name_and_put.Tie as tie
 
-name-heads-requires : tie.Need-name-heads-requires
-name-heads-requires c κs = search needs
+name-space-requires : tie.Need-name-space-requires
+name-space-requires c κs = search needs
 
 slice-aggregate-index-names : tie.Need-slice-aggregate-index-names
 slice-aggregate-index-names c = search needs
-
-slice-aggregate-index-names-2 : tie.Need-slice-aggregate-index-names-2
-slice-aggregate-index-names-2 c = search needs
 
 index-names-requires : tie.Need-index-names-requires
 index-names-requires c κs = search needs
@@ -23,9 +20,6 @@ slice-aggregate-read-names c = search needs
 slice-aggregate-read-names-2 : tie.Need-slice-aggregate-read-names-2
 slice-aggregate-read-names-2 c = search needs
 
-slice-aggregate-read-names-3 : tie.Need-slice-aggregate-read-names-3
-slice-aggregate-read-names-3 c = search needs
-
 read-names-requires : tie.Need-read-names-requires
 read-names-requires c κs = search needs
 
@@ -35,11 +29,8 @@ enum-known-n c = search needs
 slice-aggregate-put-indexed : tie.Need-slice-aggregate-put-indexed
 slice-aggregate-put-indexed c = search needs
 
-slice-aggregate-put-indexed-2 : tie.Need-slice-aggregate-put-indexed-2
-slice-aggregate-put-indexed-2 c = search needs
-
 put-indexed-requires : tie.Need-put-indexed-requires
-put-indexed-requires c κs = let p = c .before .before .before .before .before .before .before .before .before .before .before .before .before .before .before .before .before .before .before .before .before .before .before .before .before .before .before .before .pre in ((p .0 .0, p .0 .1, c .before .before .before .before .before .before .before .before .before .before .before .before .before .before .before .before .before .index-names .ensures), (λ bytes ends. were-good _ _ _ (c .before .before .before .before .before .before .before .before .before .before .read-names .ensures bytes ends) (c .before .before .before .before .before .before .before .n .given .1), p .1))
+put-indexed-requires c κs = let p = c .before .before .before .before .before .before .before .before .before .before .before .before .before .before .before .before .before .before .before .before .before .before .before .before .pre in ((p .0 .0, p .0 .1, c .before .before .before .before .before .before .before .before .before .before .before .before .before .before .index-names .ensures), (λ bytes ends. were-good _ _ _ (c .before .before .before .before .before .before .before .before .before .read-names .ensures bytes ends) (c .before .before .before .before .before .before .n .given .1), p .1))
 
 enum-known-n-2 : tie.Need-enum-known-n-2
 enum-known-n-2 c = search needs
@@ -66,7 +57,7 @@ same-length-4 : tie.Need-same-length-4
 same-length-4 c = search needs
 
 returns : tie.Need-returns
-returns c = rw (sym (c .before .before .before .before .before .before .before .before .before .before .before .before .before .before .before .before .before .read-names .kept .1 .1 .1 .1 .1 .1 .0)) (c .before .before .before .before .before .before .put-indexed .ensures)
+returns c = rw (sym (c .before .before .before .before .before .before .before .before .before .before .before .before .before .before .before .before .read-names .kept .1 .1 .1 .1 .1 .0)) (c .before .before .before .before .before .before .put-indexed .ensures)
 
 same-length-5 : tie.Need-same-length-5
 same-length-5 c = search needs
@@ -76,7 +67,7 @@ same-length-6 c = search needs
 
 returns-2 : tie.Need-returns-2
 unfolding assembleReport
-returns-2 c = refused-text _ _ 4 _ _ (was-unknown (c .before .before .before .before .before .before .before .before .before .before .before .before .before .before .before .before .before .before .before .before .before .before .before .before .before .before .pre .1) _ (c .before .before .before .before .before .before .before .before .read-names .ensures _ _) (c .before .before .before .before .before .n2 .given .1)) refl (c .before .before .clear .ensures)
+returns-2 c = refused-text _ _ 4 _ _ (was-unknown (c .before .before .before .before .before .before .before .before .before .before .before .before .before .before .before .before .before .before .before .before .before .before .before .pre .1) _ (c .before .before .before .before .before .before .before .before .read-names .ensures _ _) (c .before .before .before .before .before .n2 .given .1)) refl (c .before .before .clear .ensures)
 
 same-length-7 : tie.Need-same-length-7
 same-length-7 c = search needs
@@ -86,23 +77,20 @@ same-length-8 c = search needs
 
 returns-3 : tie.Need-returns-3
 unfolding assembleReport
-returns-3 c = refused-text _ _ 5 _ _ (was-miscounted (c .before .before .before .before .before .before .before .before .before .before .before .before .before .before .before .before .before .before .before .before .before .before .before .before .before .before .pre .1) _ (c .before .before .before .before .before .before .before .before .read-names .ensures _ _) (c .before .before .before .before .before .n3 .given .1)) refl (c .before .before .clear2 .ensures)
+returns-3 c = refused-text _ _ 5 _ _ (was-miscounted (c .before .before .before .before .before .before .before .before .before .before .before .before .before .before .before .before .before .before .before .before .before .before .before .pre .1) _ (c .before .before .before .before .before .before .before .before .read-names .ensures _ _) (c .before .before .before .before .before .n3 .given .1)) refl (c .before .before .clear2 .ensures)
 
 pub name-and-put-spec : {M : Type 1} → statement M
 name-and-put-spec =
     tie.close
     (tie.spec
-    name-heads-requires
+    name-space-requires
     slice-aggregate-index-names
-    slice-aggregate-index-names-2
     index-names-requires
     slice-aggregate-read-names
     slice-aggregate-read-names-2
-    slice-aggregate-read-names-3
     read-names-requires
     enum-known-n
     slice-aggregate-put-indexed
-    slice-aggregate-put-indexed-2
     put-indexed-requires
     enum-known-n-2
     clear-requires

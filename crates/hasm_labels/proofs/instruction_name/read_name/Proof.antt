@@ -27,10 +27,10 @@ enum-told : tie.Need-enum-told
 enum-told c = search needs
 
 returns : tie.Need-returns
-returns c = λ bytes ends. name-unknown _ (c .before .before .before .before .before .before .before .before .before .args .s .now) (c .before .before .before .before .skip .result) (c .before .before .before .before .skip .ensures .0) (sym (c .enum-told .given .1) ∙ c .before .before .find-indexed .ensures)
+returns c = λ bytes ends. name-unknown _ (c .before .before .before .before .before .before .before .before .args .s .now) (c .before .before .before .before .skip .result) (c .before .before .before .before .skip .ensures .0) (sym (c .enum-told .given .1) ∙ c .before .before .find-indexed .ensures)
 
 returns-2 : tie.Need-returns-2
-returns-2 c = absurd (row-inside (c .before .before .before .before .before .before .before .before .before .before .before .before .args .sheet .now) _ (c .before .before .before .before .before .before .before .before .before .before .before .before .args .ops .now) _ (sym (c .before .before .before .found .given .1) ∙ c .before .before .before .before .before .find-indexed .ensures) (omega arith))
+returns-2 c = absurd (row-inside (c .before .before .before .before .before .before .before .before .before .before .before .args .sheet .now) _ (c .before .before .before .before .before .before .before .before .before .before .before .args .ops .now) _ (sym (c .before .before .before .found .given .1) ∙ c .before .before .before .before .before .find-indexed .ensures) (omega arith))
 
 mul-row : tie.Need-mul-row
 mul-row c = search needs
@@ -57,13 +57,13 @@ operand-count-requires : tie.Need-operand-count-requires
 operand-count-requires c κs = search needs
 
 returns-3 : tie.Need-returns-3
-returns-3 c = λ bytes ends. name-miscounted _ (c .before .before .before .before .before .before .before .before .before .before .before .before .before .before .before .before .before .before .args .s .now) (c .before .before .before .before .before .before .before .before .before .before .before .before .before .skip .result) (c .before .before .before .before .before .before .before .before .before .before .before .before .before .skip .ensures .0) _ (sym (c .before .before .before .before .before .before .before .before .before .found .given .1) ∙ c .before .before .before .before .before .before .before .before .before .before .before .find-indexed .ensures) (c .before .before .before .before .skip2 .result) (c .before .before .before .before .skip2 .ensures .0) _ (c .before .before .count-operands .ensures) (λ e. c .if2 .taken (e ∙ sym (c .before .operand-count .ensures)))
+returns-3 c = λ bytes ends. name-miscounted _ (c .before .before .before .before .before .before .before .before .before .before .before .before .before .before .before .before .before .args .s .now) (c .before .before .before .before .before .before .before .before .before .before .before .before .before .skip .result) (c .before .before .before .before .before .before .before .before .before .before .before .before .before .skip .ensures .0) _ (sym (c .before .before .before .before .before .before .before .before .before .found .given .1) ∙ c .before .before .before .before .before .before .before .before .before .before .before .find-indexed .ensures) (c .before .before .before .before .skip2 .result) (c .before .before .before .before .skip2 .ensures .0) _ (c .before .before .count-operands .ensures) (λ e. c .if2 .taken (e ∙ sym (c .before .operand-count .ensures)))
 
 instruction-length-requires : tie.Need-instruction-length-requires
 instruction-length-requires c κs = search needs
 
 returns-4 : tie.Need-returns-4
-returns-4 c = λ bytes ends. name-sized _ (c .before .before .before .before .before .before .before .before .before .before .before .before .before .before .before .before .before .before .before .args .s .now) (c .before .before .before .before .before .before .before .before .before .before .before .before .before .before .skip .result) (c .before .before .before .before .before .before .before .before .before .before .before .before .before .before .skip .ensures .0) _ (sym (c .before .before .before .before .before .before .before .before .before .before .found .given .1) ∙ c .before .before .before .before .before .before .before .before .before .before .before .before .find-indexed .ensures) (c .before .before .before .before .before .skip2 .result) (c .before .before .before .before .before .skip2 .ensures .0) _ (c .before .before .before .count-operands .ensures) (c .before .if2 .left ∙ c .before .before .operand-count .ensures) _ (c .instruction-length .ensures .0) (c .instruction-length .ensures .1)
+returns-4 c = λ bytes ends. name-sized _ (c .before .before .before .before .before .before .before .before .before .before .before .before .before .before .before .before .before .before .args .s .now) (c .before .before .before .before .before .before .before .before .before .before .before .before .before .before .skip .result) (c .before .before .before .before .before .before .before .before .before .before .before .before .before .before .skip .ensures .0) _ (sym (c .before .before .before .before .before .before .before .before .before .before .found .given .1) ∙ c .before .before .before .before .before .before .before .before .before .before .before .before .find-indexed .ensures) (c .before .before .before .before .before .skip2 .result) (c .before .before .before .before .before .skip2 .ensures .0) _ (c .before .before .before .count-operands .ensures) (c .before .if2 .left ∙ c .before .before .operand-count .ensures) _ (c .instruction-length .ensures .0) (c .instruction-length .ensures .1)
 
 pub read-name-spec : {M : Type 1} → statement M
 read-name-spec =

@@ -12,7 +12,7 @@ find-label-requires : tie.Need-find-label-requires
 find-label-requires c κs = search needs
 
 returns : tie.Need-returns
-returns c = λ bytes ends. c .find-label .ensures ∙ ap (λ (ls : List LabelAt). foundOf (labelOffset ls (c .before .before .before .before .before .before .before .args .t .now))) (c .before .before .before .before .before .before .before .pre .1 .1 bytes ends .whole (c .before .if1 .taken))
+returns c = λ bytes ends. c .find-label .ensures ∙ ap (λ (ls : List LabelAt). foundOf (labelOffset ls (c .before .before .before .before .before .before .args .t .now))) (c .before .before .before .before .before .before .pre .1 .1 bytes ends .whole (c .before .if1 .taken))
 
 slice-aggregate-read-names : tie.Need-slice-aggregate-read-names
 slice-aggregate-read-names c = search needs
@@ -24,13 +24,13 @@ enum-known-read : tie.Need-enum-known-read
 enum-known-read c = search needs
 
 returns-2 : tie.Need-returns-2
-returns-2 c = λ bytes ends. all-good _ (c .before .before .before .before .before .before .before .before .before .before .args .text .now) (c .before .before .before .before .before .before .before .before .before .before .args .t .now) _ (c .before .before .read-names .result) (c .before .before .read-names .ensures bytes ends) (c .before .before .before .before .before .before .before .before .before .before .pre .1 .1 bytes ends .named) (λ i b o q. absurd (miss (1 ∷ 2 ∷ []) 0 tt (rw q at (c .match .keys2))))
+returns-2 c = λ bytes ends. all-good _ (c .before .before .before .before .before .before .before .before .before .args .text .now) (c .before .before .before .before .before .before .before .before .before .args .t .now) _ (c .before .before .read-names .result) (c .before .before .read-names .ensures bytes ends) (c .before .before .before .before .before .before .before .before .before .pre .1 .1 bytes ends .named) (λ i b o q. absurd (miss (1 ∷ 2 ∷ []) 0 tt (rw q at (c .match .keys2))))
 
 returns-3 : tie.Need-returns-3
-returns-3 c = λ bytes ends. sym (ap foundOf (label-found _ (c .before .before .before .before .before .before .before .before .before .before .before .before .before .args .text .now) (c .before .before .before .before .before .before .before .before .before .before .before .before .before .args .t .now) _ _ _ _ (rw (c .before .before .read .given .1) at (c .before .before .before .before .before .read-names .ensures bytes ends)) (c .if2 .taken)))
+returns-3 c = λ bytes ends. sym (ap foundOf (label-found _ (c .before .before .before .before .before .before .before .before .before .before .before .before .args .text .now) (c .before .before .before .before .before .before .before .before .before .before .before .before .args .t .now) _ _ _ _ (rw (c .before .before .read .given .1) at (c .before .before .before .before .before .read-names .ensures bytes ends)) (c .if2 .taken)))
 
 returns-4 : tie.Need-returns-4
-returns-4 c = λ bytes ends. sym (ap foundOf (label-missing _ (c .before .before .before .before .before .before .before .before .before .before .before .before .before .args .text .now) (c .before .before .before .before .before .before .before .before .before .before .before .before .before .args .t .now) _ _ _ _ (rw (c .before .before .read .given .1) at (c .before .before .before .before .before .read-names .ensures bytes ends)) (c .if2 .left)))
+returns-4 c = λ bytes ends. sym (ap foundOf (label-missing _ (c .before .before .before .before .before .before .before .before .before .before .before .before .args .text .now) (c .before .before .before .before .before .before .before .before .before .before .before .before .args .t .now) _ _ _ _ (rw (c .before .before .read .given .1) at (c .before .before .before .before .before .read-names .ensures bytes ends)) (c .if2 .left)))
 
 pub label-offset-spec : {M : Type 1} → statement M
 label-offset-spec =

@@ -11,19 +11,19 @@ use Rattle.hasm_labels.proofs.names_pass.read_names.Statement.{statemen
 use Rattle.hasm_labels.proofs.names_pass.read_names.Tie as tie
 
 abbrev Inv-loop : tie.InvT-loop
-Inv-loop text sheet types ops heads nexts labels₀ t p₀ at₀ n₀ labels p at n = ((bytes ends : List ℕ) → Going (record { sheet = sheet; types = types; infos = ops; bytes = bytes; ends = ends }) text t at n p labels) × (length labels ≡ length labels₀)
+Inv-loop text sheet types ops names labels₀ t p₀ at₀ n₀ labels p at n = ((bytes ends : List ℕ) → Going (record { sheet = sheet; types = types; infos = ops; bytes = bytes; ends = ends }) text t at n p labels) × (length labels ≡ length labels₀)
 
 abbrev μ-loop : tie.MeasureT-loop
-μ-loop text sheet types ops heads nexts labels₀ t p₀ at₀ n₀ labels p at n = length text - at
+μ-loop text sheet types ops names labels₀ t p₀ at₀ n₀ labels p at n = length text - at
 
 loop-holds : tie.Need-loop-holds Inv-loop μ-loop
-loop-holds c = ((λ bytes ends. going-start _ (c .before .before .before .before .before .args .text .now) (c .before .before .before .before .before .args .t .now) (c .before .before .before .before .before .args .labels .now)), refl)
+loop-holds c = ((λ bytes ends. going-start _ (c .before .before .before .before .args .text .now) (c .before .before .before .before .args .t .now) (c .before .before .before .before .args .labels .now)), refl)
 
 line-end-requires : tie.Need-line-end-requires Inv-loop μ-loop
 line-end-requires c κs = search needs
 
 take-line-requires : tie.Need-take-line-requires Inv-loop μ-loop
-take-line-requires c κs = ((c .before .before .before .before .before .before .before .before .before .pre .0), going-line (c .before .line-end .result) (c .before .before .before .loop .inv .0 [] []) (c .before .before .loop-test .taken) (c .before .line-end .ensures) (c .before .before .before .before .before .before .before .before .before .pre .1))
+take-line-requires c κs = ((c .before .before .before .before .before .before .before .before .pre .0), going-line (c .before .line-end .result) (c .before .before .before .loop .inv .0 [] []) (c .before .before .loop-test .taken) (c .before .line-end .ensures) (c .before .before .before .before .before .before .before .before .pre .1))
 
 same-length : tie.Need-same-length Inv-loop μ-loop
 same-length c = search needs
@@ -41,7 +41,7 @@ add-at : tie.Need-add-at Inv-loop μ-loop
 add-at c = search needs
 
 add-n : tie.Need-add-n Inv-loop μ-loop
-add-n c = omega (arith, c .before .before .before .before .before .before .before .loop .inv .0 [] [] .few, c .before .before .before .before .before .before .loop-test .taken, c .before .before .before .before .before .before .before .before .before .before .before .before .before .pre .1)
+add-n c = omega (arith, c .before .before .before .before .before .before .before .loop .inv .0 [] [] .few, c .before .before .before .before .before .before .loop-test .taken, c .before .before .before .before .before .before .before .before .before .before .before .before .pre .1)
 
 loop-less : tie.Need-loop-less Inv-loop μ-loop
 loop-less c = search needs
@@ -53,7 +53,7 @@ same-length-3 : tie.Need-same-length-3 Inv-loop μ-loop
 same-length-3 c = search needs
 
 returns-3 : tie.Need-returns-3 Inv-loop μ-loop
-returns-3 c = λ bytes ends. going-end _ (c .before .before .before .before .before .before .before .args .text .now) (c .before .before .before .before .before .before .before .args .t .now) (c .before .loop .at) (c .before .loop .n) (c .before .loop .p) _ (c .before .loop .inv .0 bytes ends) (c .loop-test .left) (c .before .before .before .before .before .before .before .pre .1)
+returns-3 c = λ bytes ends. going-end _ (c .before .before .before .before .before .before .args .text .now) (c .before .before .before .before .before .before .args .t .now) (c .before .loop .at) (c .before .loop .n) (c .before .loop .p) _ (c .before .loop .inv .0 bytes ends) (c .loop-test .left) (c .before .before .before .before .before .before .pre .1)
 
 pub read-names-spec : {M : Type 1} → statement M
 read-names-spec =

@@ -14,8 +14,8 @@ enum-known-named c = search needs
 hold-label-requires : tie.Need-hold-label-requires
 hold-label-requires c κs = search needs
 
-add-t17 : tie.Need-add-t17
-add-t17 c = let z = rw (c .before .before .before .before .before .named .given .1) at (c .before .before .before .before .before .before .before .read-name .ensures [] []) in omega (arith, c .before .before .hold-label .ensures .offset, c .before .before .before .before .before .before .before .before .before .before .before .before .before .before .pre .1 .offset, z .short)
+add-t16 : tie.Need-add-t16
+add-t16 c = let z = rw (c .before .before .before .before .before .named .given .1) at (c .before .before .before .before .before .before .before .read-name .ensures [] []) in omega (arith, c .before .before .hold-label .ensures .offset, c .before .before .before .before .before .before .before .before .before .before .before .before .before .pre .1 .offset, z .short)
 
 enum-told : tie.Need-enum-told
 enum-told c = search needs
@@ -33,13 +33,13 @@ same-length : tie.Need-same-length
 same-length c = search needs
 
 returns : tie.Need-returns
-returns c = λ bytes ends. code-passed _ (c .before .before .before .before .before .before .before .before .before .before .before .before .before .before .args .s .now) (c .before .before .before .before .before .before .before .before .before .before .before .before .before .before .args .text .now) (c .before .before .before .before .before .before .before .before .before .before .before .before .before .before .args .t .now) (c .before .before .before .before .before .before .before .before .before .before .before .before .before .before .args .labels .now) (c .before .before .before .before .before .before .before .before .before .before .before .before .before .before .args .p) _ (c .before .before .hold-label .result) _ (rw (c .before .before .before .before .before .named .given .1) at (c .before .before .before .before .before .before .before .read-name .ensures bytes ends)) (c .before .before .hold-label .ensures)
+returns c = λ bytes ends. code-passed _ (c .before .before .before .before .before .before .before .before .before .before .before .before .before .args .s .now) (c .before .before .before .before .before .before .before .before .before .before .before .before .before .args .text .now) (c .before .before .before .before .before .before .before .before .before .before .before .before .before .args .t .now) (c .before .before .before .before .before .before .before .before .before .before .before .before .before .args .labels .now) (c .before .before .before .before .before .before .before .before .before .before .before .before .before .args .p) _ (c .before .before .hold-label .result) _ (rw (c .before .before .before .before .before .named .given .1) at (c .before .before .before .before .before .before .before .read-name .ensures bytes ends)) (c .before .before .hold-label .ensures)
 
 returns-2 : tie.Need-returns-2
-returns-2 c = λ bytes ends. code-unknown _ (c .before .before .before .before .before .before .before .before .before .before .args .s .now) (c .before .before .before .before .before .before .before .before .before .before .args .text .now) (c .before .before .before .before .before .before .before .before .before .before .args .t .now) (c .before .before .before .before .before .before .before .before .before .before .args .labels .now) (c .before .before .before .before .before .before .before .before .before .before .args .p) _ _ (c .refuse .ensures) (rw (c .before .enum-told .given .1) at (c .before .before .before .read-name .ensures bytes ends))
+returns-2 c = λ bytes ends. code-unknown _ (c .before .before .before .before .before .before .before .before .before .args .s .now) (c .before .before .before .before .before .before .before .before .before .args .text .now) (c .before .before .before .before .before .before .before .before .before .args .t .now) (c .before .before .before .before .before .before .before .before .before .args .labels .now) (c .before .before .before .before .before .before .before .before .before .args .p) _ _ (c .refuse .ensures) (rw (c .before .enum-told .given .1) at (c .before .before .before .read-name .ensures bytes ends))
 
 returns-3 : tie.Need-returns-3
-returns-3 c = λ bytes ends. code-miscounted _ (c .before .before .before .before .before .before .before .before .before .before .args .s .now) (c .before .before .before .before .before .before .before .before .before .before .args .text .now) (c .before .before .before .before .before .before .before .before .before .before .args .t .now) (c .before .before .before .before .before .before .before .before .before .before .args .labels .now) (c .before .before .before .before .before .before .before .before .before .before .args .p) _ _ (c .refuse2 .ensures) (rw (c .before .enum-told2 .given .1) at (c .before .before .before .read-name .ensures bytes ends))
+returns-3 c = λ bytes ends. code-miscounted _ (c .before .before .before .before .before .before .before .before .before .args .s .now) (c .before .before .before .before .before .before .before .before .before .args .text .now) (c .before .before .before .before .before .before .before .before .before .args .t .now) (c .before .before .before .before .before .before .before .before .before .args .labels .now) (c .before .before .before .before .before .before .before .before .before .args .p) _ _ (c .refuse2 .ensures) (rw (c .before .enum-told2 .given .1) at (c .before .before .before .read-name .ensures bytes ends))
 
 pub take-code-spec : {M : Type 1} → statement M
 take-code-spec =
@@ -48,7 +48,7 @@ take-code-spec =
     read-name-requires
     enum-known-named
     hold-label-requires
-    add-t17
+    add-t16
     enum-told
     refuse-requires
     enum-told-2

@@ -7,8 +7,8 @@ use Rattle.hasm_read.proofs.statement.read_statement.Statement.{stateme
 use Rattle.hasm_read.proofs.statement.read_statement.Tie as tie
 
 -- what stands of the line
-cut : (c : tie.After-solid-length) → let line = c .before .before .before .before .before .before .before .before .before .args .line .now in let a = c .before .before .skip .result in let n = c .solid-length .result in Cut line a n (part line a (a + n - a))
-cut c = cut-at (c .before .before .before .before .before .before .before .before .before .args .line .now) _ _ _ (c .before .before .before .before .comment-start .ensures) (c .before .before .skip .ensures) (c .solid-length .ensures)
+cut : (c : tie.After-solid-length) → let line = c .before .before .before .before .before .before .before .before .args .line .now in let a = c .before .before .skip .result in let n = c .solid-length .result in Cut line a n (part line a (a + n - a))
+cut c = cut-at (c .before .before .before .before .before .before .before .before .args .line .now) _ _ _ (c .before .before .before .before .comment-start .ensures) (c .before .before .skip .ensures) (c .solid-length .ensures)
 
 comment-start-requires : tie.Need-comment-start-requires
 comment-start-requires c κs = search needs
@@ -67,11 +67,11 @@ returns-2 c = λ types bytes ends. a-label _ _ _ _ (cut (c .before .before .befo
 behind-offset-requires : tie.Need-behind-offset-requires
 behind-offset-requires c κs = search needs
 
-add-t13 : tie.Need-add-t13
-add-t13 c = search needs
+add-t12 : tie.Need-add-t12
+add-t12 c = search needs
 
-add-t20 : tie.Need-add-t20
-add-t20 c = search needs
+add-t19 : tie.Need-add-t19
+add-t19 c = search needs
 
 returns-3 : tie.Need-returns-3
 returns-3 c = λ types bytes ends. a-code _ _ _ _ (cut (c .before .before .before .before .before .before)) _ (sym (c .before .before .before .before .is-skipped .ensures) ∙ c .before .before .before .if1 .left) (sym (c .before .before .is-label .ensures) ∙ c .before .if2 .left) _ (c .behind-offset .ensures .0 types bytes ends) (c .behind-offset .ensures .1)
@@ -99,6 +99,6 @@ read-statement-spec =
     sub-size
     returns-2
     behind-offset-requires
-    add-t13
-    add-t20
+    add-t12
+    add-t19
     returns-3)

@@ -1,29 +1,16 @@
 -- The operations of decoding, case by case. Assumes nothing.
-use mathlib.Core.Path.{_≡_, sym}
+use mathlib.Core.Path.{_≡_}
 use mathlib.Core.List.{List}
-use Prim.Native.Nat.{ℕ, _-_, _≤_, _<_}
+use Prim.Native.Nat.{ℕ, _≤_, _<_}
 use lib.ListN.{length}
 use mathlib.Core.Bool.{true, false}
 use borrow.Author.Tests.{lt-ltb, le-ltb}
-use Rattle.spec_sheet.specs.Sheet.{SheetRead, sheetOf}
-use Rattle.spec_sheet.specs.Sheet.SheetRead.{malformed}
-use Rattle.sheet.specs.Sheets.{typesIn}
-use Rattle.sheet.proofs.UnderSheet.{ReadAs}
+use Rattle.spec_sheet.specs.Sheet.{sheetOf}
 use Rattle.spec_body.specs.Decode.{decodeBody}
 use Rattle.spec_body.specs.Function.{inArea, functionSize, functionBody}
 use Rattle.spec_body.specs.Operation.{decodeOutcome, functionOutcome, decode}
-use Rattle.spec_answers.specs.Outcome.{Outcome}
 use Rattle.spec_inputs.specs.Inputs.{underSheet}
 use Rattle.spec_answers.specs.Outcome.Outcome.{refusedWith}
-
--- under a sheet that was read, and under none
-pub under-read : (x : SheetRead) (m : ℕ) (r : ReadAs x m) (then : List (List ℕ) → ℕ → Outcome) → underSheet x then ≡ then (typesIn x) (m - 1)
-unfolding underSheet typesIn
-under-read x m r then = rw (r .is-sheet, sym (r .above-is))
-
-pub under-none : (x : SheetRead) (k : ℕ) (then : List (List ℕ) → ℕ → Outcome) → x ≡ malformed k → underSheet x then ≡ refusedWith 1 k 0
-unfolding underSheet
-under-none x k then e = rw e
 
 module _ (text body : List ℕ) where
   pub decode-large : 65536 < length body → decode text body ≡ refusedWith 18 0 0

@@ -52,7 +52,7 @@ pub fn decode(sheet: &[u8], body: &[u8], out: &mut [u64]) -> DecodeAnswer
     let mut ops = [[0usize; 4]; 256];
     let read = sheet::opcode::read_sheet(sheet, &mut types, &mut ops);
     match read {
-        Sheet::Read(_, _, above, _) => decode_under(&types, above - 1, body, out),
+        Sheet::Read(s) => decode_under(&types, s.largest, body, out),
         Sheet::Malformed(line) => {
             slices::clearing::clear_words(out);
             DecodeAnswer::Malformed(line)
@@ -76,15 +76,7 @@ pub fn decode_function(
     let mut ops = [[0usize; 4]; 256];
     let read = sheet::opcode::read_sheet(sheet, &mut types, &mut ops);
     match read {
-        Sheet::Read(_, _, above, _) => function_under(
-            &types,
-            above - 1,
-            functions,
-            area,
-            base,
-            id,
-            out,
-        ),
+        Sheet::Read(s) => function_under(&types, s.largest, functions, area, base, id, out),
         Sheet::Malformed(line) => {
             slices::clearing::clear_words(out);
             DecodeAnswer::Malformed(line)

@@ -1,24 +1,23 @@
 -- What encoding answers and leaves in the lent space, case by case. Assumes nothing.
 use mathlib.Core.Path.{_≡_, refl, ap, sym, _∙_}
 use mathlib.Core.List.{List, _++_}
-use Prim.Native.Nat.{ℕ, _+_, _-_, _≤_, _<_}
+use Prim.Native.Nat.{ℕ, _+_, _≤_, _<_}
 use native.Mathlib.Omega.{arith}
 use lib.ListN.{length, drop}
 use borrow.Author.Tests.{lt-ltb, le-ltb}
 use Rattle.lists.specs.Write.{Put}
 use Rattle.lists.proofs.Writes.{put-fits}
 use Rattle.spec_answers.specs.Report.{zeros}
-use Rattle.spec_sheet.specs.Sheet.{SheetRead, above, sheetOf}
-use Rattle.spec_sheet.specs.Sheet.SheetRead.{sheet, malformed}
+use Rattle.spec_sheet.specs.Sheet.{sheetOf}
 use Rattle.spec_body.specs.Encode.{Encoded, encodeRecords}
 use Rattle.spec_body.specs.Encode.Encoded.{encoded}
 use Rattle.spec_body.specs.Operation as operation
 use Rattle.spec_body.specs.Operation.{encodeOutcome}
 use Rattle.spec_answers.specs.Outcome.{Outcome, report, exitOf, measured}
 use Rattle.limits.specs.Limits.{bodyLimit}
-use Rattle.spec_inputs.specs.Inputs.{underSheet}
-use Rattle.spec_answers.specs.Outcome.Outcome.{refusedWith}
+use Rattle.operation.proofs.UnderLaws.{under-read, under-none}
 use Rattle.sheet.specs.Sheets.{sheetAnswer, typesIn}
+use Rattle.sheet.specs.declared.opcode.SheetRead.{SheetRead as Numbers}
 use Rattle.sheet.specs.declared.opcode.Sheet.the-variants.{Read, Malformed}
 use Rattle.encode.specs.Answers.{encodeReport}
 use Rattle.encode.specs.Encoding.{Encoding}
@@ -83,21 +82,11 @@ module _ (x : Encoded) (out out′ : List ℕ) (r : EncodeAnswer) (d : Encoding 
           (refl, w .wrote .bytes ∙ (put-fits out 0 (w .body) (omega (arith, length-is)) ∙ ap (λ (k : ℕ). w .body ++ drop k out) q))
 
 -- under a sheet that was read, and one that is malformed
-pub under-read : (x : SheetRead) (v n m b : ℕ) (then : List (List ℕ) → ℕ → Outcome) → sheetAnswer x ≡ Read v n m b → underSheet x then ≡ then (typesIn x) (m - 1)
-unfolding underSheet sheetAnswer typesIn
-under-read (sheet sh at) v n m b then e = let q : above 0 (sh .opcodes) ≡ m = cc e in rw q
-under-read (malformed k) v n m b then e = absurd (let z : _≡_ {A = ℕ} 0 1 = cc e in omega arith)
-
-under-none : (x : SheetRead) (k : ℕ) (then : List (List ℕ) → ℕ → Outcome) → sheetAnswer x ≡ Malformed k → underSheet x then ≡ refusedWith 1 k 0
-unfolding underSheet sheetAnswer
-under-none (sheet sh at) k then e = absurd (let z : _≡_ {A = ℕ} 0 1 = cc e in omega arith)
-under-none (malformed j) k then e = let q : j ≡ k = cc e in rw q
-
 module _ (text words : List ℕ) where
-  pub encode-read : (v n m b : ℕ) → sheetAnswer (sheetOf text) ≡ Read v n m b → operation.encode text words ≡ encodeOutcome (encodeRecords (typesIn (sheetOf text)) (m - 1) words)
+  pub encode-read : {r : Numbers} → sheetAnswer (sheetOf text) ≡ Read r → operation.encode text words ≡ encodeOutcome (encodeRecords (typesIn (sheetOf text)) (r .largest) words)
   unfolding operation.encode
-  encode-read v n m b e = under-read (sheetOf text) v n m b _ e
+  encode-read e = under-read (sheetOf text) _ e
 
   pub encode-none : (k : ℕ) (out : List ℕ) → sheetAnswer (sheetOf text) ≡ Malformed k → Told (operation.encode text words) out (variants.Malformed k) (zeros out)
   unfolding operation.encode report exitOf encodeReport
-  encode-none k out e = rw (under-none (sheetOf text) k _ e) (refl, refl)
+  encode-none k out e = rw (under-none (sheetOf text) _ e) (refl, refl)

@@ -1,7 +1,7 @@
 // Records of 20 words encoded under a sheet, `encode_function_body` of encode.rs. One pass writes what fits and counts all of
 // it, so that the lent space is compared with the length needed only after nothing else has refused.
 ghost use mathlib.Core.Path.{_≡_};
-ghost use Prim.Native.Nat.{_-_, _≤_};
+ghost use Prim.Native.Nat.{_≤_};
 ghost use lib.ListN.{length};
 ghost use Rattle.spec_body.specs.Encode.{encodeRecords};
 ghost use Rattle.spec_body.specs.Operation as operation;
@@ -78,17 +78,6 @@ pub fn encode_under(
     EncodeAnswer::Done(n)
 }
 
-// The largest opcode, from one more than it. A sheet that was read has at least one opcode, so that 0 does not occur; the
-// definition too takes 0 there.
-fn largest_of(above: usize) -> usize
-    ensures { λ r. ⌜ r ≡ above - 1 ⌝ }
-{
-    if above == 0 {
-        return 0;
-    }
-    above - 1
-}
-
 // Encodes records of 20 words under the sheet that a text holds.
 pub fn encode(sheet: &[u8], words: &[u64], out: &mut [u8]) -> EncodeAnswer
     ensures { λ r. ⌜ encodeReport r ≡ report (operation.encode (now (sheet .entry)) (now (words .entry))) (length (now (out .entry))) ⌝ }
@@ -98,10 +87,7 @@ pub fn encode(sheet: &[u8], words: &[u64], out: &mut [u8]) -> EncodeAnswer
     let mut ops = [[0usize; 4]; 256];
     let s = sheet::opcode::read_sheet(sheet, &mut types, &mut ops);
     match s {
-        Sheet::Read(_, _, above, _) => {
-            let last = largest_of(above);
-            encode_under(&types, last, words, out)
-        }
+        Sheet::Read(read) => encode_under(&types, read.largest, words, out),
         Sheet::Malformed(line) => {
             slices::write::clear(out);
             EncodeAnswer::Malformed(line)

@@ -14,7 +14,7 @@ use Rattle.lists.proofs.Tests.{by-leb}
 use Rattle.lists.proofs.Writes.{put-fits}
 use Rattle.spec_answers.specs.Report.{Report, refusal, success, zeros, written}
 use Rattle.spec_sheet.specs.Line.{Op}
-use Rattle.spec_sheet.specs.Sheet.{typeRows, infoRows, above}
+use Rattle.spec_sheet.specs.Sheet.{typeRows, infoRows, largest}
 use Rattle.spec_body.specs.Decode.{decodeBody}
 use Rattle.spec_answers.specs.Outcome.{Outcome, report, exitOf}
 use Rattle.spec_answers.specs.Outcome.Outcome.{result, refusedWith}
@@ -49,10 +49,10 @@ module _ (job bytes ends body : List ℕ) (os : List Op) (before after : List �
   unfolding listUnder
   list-refused i w q z = refused-end _ _ (w .number) (w .place) 0 before after (w .stops _) (q ∙ w .told) z
 
-  pub list-ready : (types ops : List (List ℕ)) (last k m : ℕ) → AreReady last bytes ends k → types ≡ typeRows os → ops ≡ infoRows os → m ≡ above 0 os → last ≡ m - 1
+  pub list-ready : (types ops : List (List ℕ)) (last k : ℕ) → AreReady last bytes ends k → types ≡ typeRows os → ops ≡ infoRows os → last ≡ largest os
       → Ended (listOutcome 4096 (listDecoded defaultOptions (contextFrom job types ops bytes ends) [] (decodeBody types k body))) before after r → Ended (listUnder job own body) before after r
   unfolding listUnder
-  list-ready types ops last k m w t o a l e = rw (w .goes-on) (rw (sym t, sym o, sym a, sym l, sym (w .last-is)) e)
+  list-ready types ops last k w t o l e = rw (w .goes-on) (rw (sym t, sym o, sym l, sym (w .last-is)) e)
 
 -- zeros stay zeros, also those of a part
 zeros-front : (n m : ℕ) → zeros (take n (replicate m 0)) ≡ take n (replicate m 0)

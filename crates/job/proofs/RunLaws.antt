@@ -12,7 +12,7 @@ use Rattle.lists.specs.Write.{Put}
 use Rattle.lists.proofs.Writes.{put-fits, kept-length}
 use Rattle.spec_answers.specs.Report.{zeros, written}
 use Rattle.spec_sheet.specs.Line.{Op}
-use Rattle.spec_sheet.specs.Sheet.{typeRows, infoRows, above}
+use Rattle.spec_sheet.specs.Sheet.{typeRows, infoRows, largest}
 use Rattle.spec_job.specs.Job.{JobInputs, JobRead, inputsAt, withBody, withText, readList, readAssemble}
 use Rattle.spec_job.specs.Job.InputsRead.{badInputs}
 use Rattle.spec_job.specs.Job.JobRead.{listJob, badLine}
@@ -21,6 +21,7 @@ use Rattle.spec_job.specs.Printed.{refusedText, printedJob, printed}
 use Rattle.limits.specs.Limits.{jobLimit}
 use Rattle.job_read.specs.ReaderAnswers.{asked}
 use Rattle.job_read.specs.declared.reader.Asked.{Asked}
+use Rattle.job_read.specs.declared.reader.InputsRead.{InputsRead}
 use Rattle.job_read.proofs.AskedLaws.{readAs, read-as}
 use Rattle.job.specs.Run.{runText}
 use Rattle.job.specs.Prints.{Prints, printedMost}
@@ -28,27 +29,27 @@ use Rattle.job.proofs.PrintLaws.{refusal-prints}
 use Rattle.job_read.proofs.ReadLaws.{InputsWas, inputs-held}
 
 -- inputs that were read, and what is read behind it
-module _ (job : List ℕ) (start : ℕ) {types ops : List (List ℕ)} {bytes ends : List ℕ} {b line m count size : ℕ} (w : InputsWas (inputsAt job start 2) types ops bytes ends b line m count size) (h : length job ≤ 65536) where
-  inputs-prints : (x : JobInputs → JobRead) (read : JobRead) → read ≡ x (w .of) → (texts tableEnds : List ℕ) → texts ≡ take size bytes → tableEnds ≡ take count ends → size ≤ length bytes → count ≤ length ends
+module _ (job : List ℕ) (start : ℕ) {types ops : List (List ℕ)} {bytes ends : List ℕ} {read : InputsRead} (w : InputsWas (inputsAt job start 2) types ops bytes ends read) (h : length job ≤ 65536) where
+  inputs-prints : (x : JobInputs → JobRead) (whole : JobRead) → whole ≡ x (w .of) → (texts tableEnds : List ℕ) → texts ≡ take (read .size) bytes → tableEnds ≡ take (read .count) ends → read .size ≤ length bytes → read .count ≤ length ends
       → (before after : List ℕ) (r : ℕ)
-      → ((os : List Op) → types ≡ typeRows os → ops ≡ infoRows os → m ≡ above 0 os → Prints (printedJob job (x (record { opcodes = os; bytes = texts; ends = tableEnds }))) before after r)
-      → Prints (printedJob job read) before after r
-  inputs-prints x read e texts tableEnds p q l n before after r k =
+      → ((os : List Op) → types ≡ typeRows os → ops ≡ infoRows os → read .largest ≡ largest os → Prints (printedJob job (x (record { opcodes = os; bytes = texts; ends = tableEnds }))) before after r)
+      → Prints (printedJob job whole) before after r
+  inputs-prints x whole e texts tableEnds p q l n before after r k =
       let held = inputs-held job start w h texts tableEnds p q l n in
-      rw e (rw held at (k (w .of .opcodes) (w .held .type-rows) (w .held .info-rows) (w .above-is)))
+      rw e (rw held at (k (w .of .opcodes) (w .held .type-rows) (w .held .info-rows) (w .largest-is)))
 
-  module _ (lists : Bool) (texts tableEnds : List ℕ) (p : texts ≡ take size bytes) (q : tableEnds ≡ take count ends) (l : size ≤ length bytes) (n : count ≤ length ends) (before after : List ℕ) (r : ℕ) where
+  module _ (lists : Bool) (texts tableEnds : List ℕ) (p : texts ≡ take (read .size) bytes) (q : tableEnds ≡ take (read .count) ends) (l : read .size ≤ length bytes) (n : read .count ≤ length ends) (before after : List ℕ) (r : ℕ) where
     pub list-prints : lists ≡ true
-        → ((os : List Op) → types ≡ typeRows os → ops ≡ infoRows os → m ≡ above 0 os → Prints (printedJob job (withBody job b line (listJob (record { opcodes = os; bytes = texts; ends = tableEnds })))) before after r)
+        → ((os : List Op) → types ≡ typeRows os → ops ≡ infoRows os → read .largest ≡ largest os → Prints (printedJob job (withBody job (read .end) (read .line) (listJob (record { opcodes = os; bytes = texts; ends = tableEnds })))) before after r)
         → Prints (printedJob job (pick lists (readList job start) (readAssemble job start))) before after r
     list-prints e k =
-        rw e (inputs-prints (λ (f : JobInputs). withBody job b line (listJob f)) (readList job start) (list-body job start (w .of) b line (w .is-inputs)) texts tableEnds p q l n before after r k)
+        rw e (inputs-prints (λ (f : JobInputs). withBody job (read .end) (read .line) (listJob f)) (readList job start) (list-body job start (w .of) (read .end) (read .line) (w .is-inputs)) texts tableEnds p q l n before after r k)
 
     pub assemble-prints : lists ≡ false
-        → ((os : List Op) → types ≡ typeRows os → ops ≡ infoRows os → Prints (printedJob job (withText job b line (record { opcodes = os; bytes = texts; ends = tableEnds }))) before after r)
+        → ((os : List Op) → types ≡ typeRows os → ops ≡ infoRows os → Prints (printedJob job (withText job (read .end) (read .line) (record { opcodes = os; bytes = texts; ends = tableEnds }))) before after r)
         → Prints (printedJob job (pick lists (readList job start) (readAssemble job start))) before after r
     assemble-prints e k =
-        rw e (inputs-prints (withText job b line) (readAssemble job start) (assemble-text job start (w .of) b line (w .is-inputs)) texts tableEnds p q l n before after r (λ os t o a. k os t o))
+        rw e (inputs-prints (withText job (read .end) (read .line)) (readAssemble job start) (assemble-text job start (w .of) (read .end) (read .line) (w .is-inputs)) texts tableEnds p q l n before after r (λ os t o a. k os t o))
 
 -- a malformed line of the inputs
 pub inputs-off : (job : List ℕ) (start line : ℕ) (lists : Bool) → inputsAt job start 2 ≡ badInputs line → pick lists (readList job start) (readAssemble job start) ≡ badLine line

@@ -13,6 +13,7 @@ ghost use Rattle.job.specs.Prints.{Prints, toldBody};
 use crate::printed::refused;
 use assemble::answer::AssembleAnswer;
 use hasm_labels::label_entry::Slot;
+use job_read::reader::InputsRead;
 use job_read::reader::TextAnswer;
 use operation::inputs::Inputs;
 use slices::write::clear;
@@ -80,11 +81,11 @@ fn put_assembled(a: AssembleAnswer, out: &[u8], text: &mut [u8]) -> usize
     crate::printed::put_refused(text, 0, n.number, n.place, n.operand)
 }
 
-// Prints the body that the job's text is assembled to, under the inputs that were read before it. The line `text=` stands at `at`.
+// Prints the body that the job's text is assembled to, under the inputs that were read before it. The line `text=` stands
+// behind them.
 pub fn print_assembled(
     job: &[u8],
-    at: usize,
-    line: usize,
+    read: InputsRead,
     types: &[[u8; 8]; 256],
     ops: &[[usize; 4]; 256],
     bytes: &[u8],
@@ -92,9 +93,9 @@ pub fn print_assembled(
     text: &mut [u8],
 ) -> usize
     requires { ⌜ (length (now job) ≤ jobLimit) × (length (now ends) ≤ jobStringLimit) ⌝ }
-    ensures { λ r. ⌜ ((os : List Op) → now (types .entry) ≡ typeRows os → now (ops .entry) ≡ infoRows os → Prints (printedJob (now (job .entry)) (withText (now (job .entry)) at line (record { opcodes = os; bytes = now (bytes .entry); ends = now (ends .entry) }))) (now (text .entry)) (now (text .exit)) r) ⌝ }
+    ensures { λ r. ⌜ ((os : List Op) → now (types .entry) ≡ typeRows os → now (ops .entry) ≡ infoRows os → Prints (printedJob (now (job .entry)) (withText (now (job .entry)) (read .end) (read .line) (record { opcodes = os; bytes = now (bytes .entry); ends = now (ends .entry) }))) (now (text .entry)) (now (text .exit)) r) ⌝ }
 {
-    let t = job_read::reader::text_at(job, at, line);
+    let t = job_read::reader::text_at(job, read.end, read.line);
     match t {
         TextAnswer::From(b) => {
             let mut out = body_space();

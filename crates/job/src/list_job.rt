@@ -1,12 +1,11 @@
 // A job that lists a body: the listing stands where it is printed.
 ghost use mathlib.Core.Path.{_≡_};
 ghost use mathlib.Core.List.{List};
-ghost use Prim.Native.Nat.{ℕ, _-_, _≤_};
+ghost use Prim.Native.Nat.{ℕ, _≤_};
 ghost use lib.ListN.{length, replicate};
 ghost use Rattle.limits.specs.Limits.{jobLimit, bodyLimit, jobOutput};
 ghost use Rattle.spec_sheet.specs.Line.{Op};
-ghost use Rattle.spec_sheet.specs.Sheet as sheets;
-ghost use Rattle.spec_sheet.specs.Sheet.{typeRows, infoRows};
+ghost use Rattle.spec_sheet.specs.Sheet.{typeRows, infoRows, largest};
 ghost use Rattle.spec_job.specs.Job.{withBody};
 ghost use Rattle.spec_job.specs.Job.JobRead.{listJob};
 ghost use Rattle.spec_job.specs.Printed.{listUnder, printedOf, printedJob};
@@ -14,6 +13,7 @@ ghost use Rattle.listing.specs.Answers.{listReport, Ended};
 ghost use Rattle.job.specs.Prints.{Prints, Told};
 use crate::printed::refused;
 use job_read::reader::BodyAnswer;
+use job_read::reader::InputsRead;
 use listing::answer::ListAnswer;
 use listing::options::Options;
 use operation::inputs::Inputs;
@@ -25,32 +25,22 @@ fn body_space() -> [u8; 32768] {
     [0; 32768]
 }
 
-// The largest opcode, from one more than it.
-fn largest_of(above: usize) -> usize
-    ensures { λ r. ⌜ r ≡ above - 1 ⌝ }
-{
-    if above == 0 {
-        return 0;
-    }
-    above - 1
-}
-
 // Lists the body of a job whose lines are in order: 17, then as listing a body. The program lends 4,096 label entries.
 fn list_inputs(
     job: &[u8],
     types: &[[u8; 8]; 256],
     ops: &[[usize; 4]; 256],
-    above: usize,
+    last: usize,
     bytes: &[u8],
     ends: &[u32],
     body: &[u8],
     out: &mut [u8],
 ) -> ListAnswer
     requires { ⌜ length (now body) ≤ bodyLimit ⌝ }
-    ensures { λ r. ⌜ ((os : List Op) → now (types .entry) ≡ typeRows os → now (ops .entry) ≡ infoRows os → above ≡ sheets.above 0 os → Ended (listUnder (now (job .entry)) (record { opcodes = os; bytes = now (bytes .entry); ends = now (ends .entry) }) (now (body .entry))) (now (out .entry)) (now (out .exit)) r) ⌝ }
+    ensures { λ r. ⌜ ((os : List Op) → now (types .entry) ≡ typeRows os → now (ops .entry) ≡ infoRows os → last ≡ largest os → Ended (listUnder (now (job .entry)) (record { opcodes = os; bytes = now (bytes .entry); ends = now (ends .entry) }) (now (body .entry))) (now (out .entry)) (now (out .exit)) r) ⌝ }
 {
-    let i = operation::inputs::table_inputs(largest_of(above), bytes, ends);
-    let Inputs::Ready(last) = i else {
+    let i = operation::inputs::table_inputs(last, bytes, ends);
+    let Inputs::Ready(opcode) = i else {
         clear(out);
         return listing::list::refused_inputs(i);
     };
@@ -64,7 +54,7 @@ fn list_inputs(
         job,
         types,
         ops,
-        last,
+        opcode,
         bytes,
         ends,
         body,
@@ -89,20 +79,20 @@ fn print_listing(
     job: &[u8],
     types: &[[u8; 8]; 256],
     ops: &[[usize; 4]; 256],
-    above: usize,
+    last: usize,
     bytes: &[u8],
     ends: &[u32],
     body: &[u8],
     text: &mut [u8],
 ) -> usize
     requires { ⌜ (length (now body) ≤ bodyLimit) × (jobOutput ≤ length (now text)) × (now text ≡ replicate (length (now text)) 0) ⌝ }
-    ensures { λ r. ⌜ ((os : List Op) → now (types .entry) ≡ typeRows os → now (ops .entry) ≡ infoRows os → above ≡ sheets.above 0 os → Prints (printedOf (λ (t : List ℕ). t) (listUnder (now (job .entry)) (record { opcodes = os; bytes = now (bytes .entry); ends = now (ends .entry) }) (now (body .entry)))) (now (text .entry)) (now (text .exit)) r) ⌝ }
+    ensures { λ r. ⌜ ((os : List Op) → now (types .entry) ≡ typeRows os → now (ops .entry) ≡ infoRows os → last ≡ largest os → Prints (printedOf (λ (t : List ℕ). t) (listUnder (now (job .entry)) (record { opcodes = os; bytes = now (bytes .entry); ends = now (ends .entry) }) (now (body .entry)))) (now (text .entry)) (now (text .exit)) r) ⌝ }
 {
     let a = list_inputs(
         job,
         types,
         ops,
-        above,
+        last,
         bytes,
         ends,
         body,
@@ -111,26 +101,33 @@ fn print_listing(
     put_listed(a, text)
 }
 
-// Prints the listing of the job's body, which stands at `at`, under the inputs that were read before it.
+// Prints the listing of the job's body, which stands behind the inputs that were read.
 pub fn print_list(
     job: &[u8],
-    at: usize,
-    line: usize,
+    read: InputsRead,
     types: &[[u8; 8]; 256],
     ops: &[[usize; 4]; 256],
-    above: usize,
     bytes: &[u8],
     ends: &[u32],
     text: &mut [u8],
 ) -> usize
-    requires { ⌜ (length (now job) ≤ jobLimit) × (line ≤ jobLimit) × (jobOutput ≤ length (now text)) × (now text ≡ replicate (length (now text)) 0) ⌝ }
-    ensures { λ r. ⌜ ((os : List Op) → now (types .entry) ≡ typeRows os → now (ops .entry) ≡ infoRows os → above ≡ sheets.above 0 os → Prints (printedJob (now (job .entry)) (withBody (now (job .entry)) at line (listJob (record { opcodes = os; bytes = now (bytes .entry); ends = now (ends .entry) })))) (now (text .entry)) (now (text .exit)) r) ⌝ }
+    requires { ⌜ (length (now job) ≤ jobLimit) × (read .line ≤ jobLimit) × (jobOutput ≤ length (now text)) × (now text ≡ replicate (length (now text)) 0) ⌝ }
+    ensures { λ r. ⌜ ((os : List Op) → now (types .entry) ≡ typeRows os → now (ops .entry) ≡ infoRows os → read .largest ≡ largest os → Prints (printedJob (now (job .entry)) (withBody (now (job .entry)) (read .end) (read .line) (listJob (record { opcodes = os; bytes = now (bytes .entry); ends = now (ends .entry) })))) (now (text .entry)) (now (text .exit)) r) ⌝ }
 {
     let mut body = body_space();
-    let b = job_read::reader::body_at(job, at, line, &mut body);
+    let b = job_read::reader::body_at(job, read.end, read.line, &mut body);
     match b {
         BodyAnswer::Read(n) => {
-            print_listing(job, types, ops, above, bytes, ends, &body[0..n], text)
+            print_listing(
+                job,
+                types,
+                ops,
+                read.largest,
+                bytes,
+                ends,
+                &body[0..n],
+                text,
+            )
         }
         BodyAnswer::BadLine(bad) => refused(text, 1, bad),
     }

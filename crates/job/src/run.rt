@@ -35,26 +35,17 @@ fn print_job(lists: bool, job: &[u8], start: usize, text: &mut [u8]) -> usize
     let mut ends = end_space();
     let e = job_read::reader::inputs_at(job, start, 2, &mut types, &mut ops, &mut bytes, &mut ends);
     match e {
-        InputsAnswer::Read(at, line, above, count, size) => {
+        InputsAnswer::Read(read) => {
+            let size = read.size;
+            let count = read.count;
             let texts = &bytes[0..size];
             let table_ends = &ends[0..count];
             if lists {
-                crate::list_job::print_list(
-                    job,
-                    at,
-                    line,
-                    &types,
-                    &ops,
-                    above,
-                    texts,
-                    table_ends,
-                    text,
-                )
+                crate::list_job::print_list(job, read, &types, &ops, texts, table_ends, text)
             } else {
                 crate::assemble_job::print_assembled(
                     job,
-                    at,
-                    line,
+                    read,
                     &types,
                     &ops,
                     texts,

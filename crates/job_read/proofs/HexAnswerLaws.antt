@@ -13,7 +13,8 @@ use Rattle.job_read.specs.HexAnswers.{Lined}
 use Rattle.job_read.specs.HexAnswers.Lined.{line, noLine}
 use Rattle.job_read.specs.TableAnswers.{Opens}
 use Rattle.job_read.specs.declared.hex.HexLine.{HexLine}
-use Rattle.job_read.specs.declared.hex.HexLine.the-variants.{To, Malformed}
+use Rattle.job_read.specs.declared.hex.HexLine.the-variants.{Read, Malformed}
+use Rattle.job_read.specs.declared.hex.HexRead.{HexRead as Numbers}
 
 -- a line that was written
 pub record Wrote (x : HexRead) (out : List ℕ) («from» : ℕ) (out′ : List ℕ) (b k : ℕ) : Type 0 where
@@ -22,11 +23,11 @@ pub record Wrote (x : HexRead) (out : List ℕ) («from» : ℕ) (out′ : List 
   pub written : Put out «from» bytes out′ k
 
 module _ {x : HexRead} {out : List ℕ} {«from» : ℕ} {out′ : List ℕ} {r : HexLine} where
-  pub was-line : {b k : ℕ} → Lined x out «from» out′ r → r ≡ To b k → Wrote x out «from» out′ b k
-  was-line {b} {k} (line bs c j e f p) q =
-      let y : c ≡ b = cc (sym f ∙ q) in
-      let z : j ≡ k = cc (sym f ∙ q) in
-      record { bytes = bs; is-hex = e ∙ ap (hex bs) y; written = rw z at p }
+  pub was-line : {n : Numbers} → Lined x out «from» out′ r → r ≡ Read n → Wrote x out «from» out′ (n .end) (n .next)
+  was-line {n} (line bs c j e f p) q =
+      let y : _≡_ {A = Numbers} (record { end = c; next = j }) n = cc (sym f ∙ q) in
+      let z : j ≡ n .next = ap (λ (m : Numbers). m .next) y in
+      record { bytes = bs; is-hex = e ∙ ap (λ (m : Numbers). hex bs (m .end)) y; written = rw z at p }
   was-line (noLine e f) q = absurd (let z : _≡_ {A = ℕ} 0 1 = cc (sym f ∙ q) in omega arith)
 
   pub was-malformed : Lined x out «from» out′ r → r ≡ Malformed → x ≡ noHex

@@ -12,7 +12,7 @@ use Rattle.spec_job.specs.Hex.HexRead.{hex, noHex}
 use Rattle.spec_job.proofs.HexLaws.{hex-ended, hex-byte, hex-high, hex-low, hex-past}
 use Rattle.job_read.specs.HexAnswers.{Lined}
 use Rattle.job_read.specs.HexAnswers.Lined.{line, noLine}
-use Rattle.job_read.specs.declared.hex.HexLine.the-variants.{To, Malformed}
+use Rattle.job_read.specs.declared.hex.HexLine.the-variants.{Read, Malformed}
 
 -- bytes in front of those of a line
 unfoldable pub behind : List ℕ → HexRead → HexRead
@@ -42,7 +42,7 @@ begin s start out «from» h l = record { seen = []; fuel = length s; enough = o
 
 module _ (s : List ℕ) (start : ℕ) (out₀ : List ℕ) («from» : ℕ) (out : List ℕ) (k at : ℕ) (g : Going s start out₀ «from» out k at) where
   -- the end of the line
-  pub ended : getD s at 0 ≡ 10 → Lined (hexAt s start) out₀ «from» out (To (at + 1) k)
+  pub ended : getD s at 0 ≡ 10 → Lined (hexAt s start) out₀ «from» out (Read (record { end = at + 1; next = k }))
   unfolding behind
   ended e = line (g .seen) (at + 1) k (g .left ∙ (rw (hex-ended s at (g .fuel) e) (ap (λ (l : List ℕ). hex l (at + 1)) (append-nil (g .seen))))) refl (g .wrote)
 

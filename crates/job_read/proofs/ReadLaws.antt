@@ -5,7 +5,7 @@ use Prim.Native.Nat.{ℕ, _-_, _≤_}
 use native.Mathlib.Nat.{sub-zero}
 use native.Mathlib.Omega.{arith}
 use lib.ListN.{length, take}
-use Rattle.spec_sheet.specs.Sheet.{above}
+use Rattle.spec_sheet.specs.Sheet.{largest}
 use Rattle.spec_job.specs.Job.{JobInputs, InputsRead, JobRead, inputsAt, withBody}
 use Rattle.spec_job.specs.Job.InputsRead.{inputs, badInputs}
 use Rattle.spec_job.specs.Job.JobRead.{badLine}
@@ -14,6 +14,7 @@ use Rattle.job_read.specs.TableAnswers.{Opens}
 use Rattle.job_read.specs.ReaderAnswers.{BodyIn, InputsIn, Holds}
 use Rattle.job_read.specs.ReaderAnswers.InputsIn.{whole as whole-inputs, faulty as faulty-inputs}
 use Rattle.job_read.specs.ReaderAnswers.BodyIn.{whole, faulty}
+use Rattle.job_read.specs.declared.reader.InputsRead.{InputsRead as Numbers}
 use Rattle.job_read.specs.declared.reader.InputsAnswer.{InputsAnswer}
 use Rattle.job_read.specs.declared.reader.InputsAnswer.the-variants as answers
 use Rattle.job_read.specs.declared.reader.BodyAnswer.{BodyAnswer}
@@ -39,20 +40,26 @@ pub body-fits : (job : List ℕ) (at line : ℕ) {out : List ℕ} {n : ℕ} (b :
 body-fits job at line b h = omega (arith, b .count, body-size job at line (b .body) (b .goes-on))
 
 -- inputs that were read, from the answer
-pub record InputsWas (x : InputsRead) (types ops : List (List ℕ)) (bytes ends : List ℕ) (b line m count size : ℕ) : Type 0 where
+pub record InputsWas (x : InputsRead) (types ops : List (List ℕ)) (bytes ends : List ℕ) (n : Numbers) : Type 0 where
   pub of : JobInputs
-  pub is-inputs : x ≡ inputs of b line
-  pub above-is : m ≡ above 0 (of .opcodes)
-  pub count-is : count ≡ length (of .ends)
-  pub size-is : size ≡ length (of .bytes)
+  pub is-inputs : x ≡ inputs of (n .end) (n .line)
+  pub largest-is : n .largest ≡ largest (of .opcodes)
+  pub count-is : n .count ≡ length (of .ends)
+  pub size-is : n .size ≡ length (of .bytes)
   pub held : Holds of types ops bytes ends
 
-pub was-inputs : {x : InputsRead} {types ops : List (List ℕ)} {bytes ends : List ℕ} {r : InputsAnswer} {b line m count size : ℕ} → InputsIn x types ops bytes ends r
-    → r ≡ answers.Read b line m count size → InputsWas x types ops bytes ends b line m count size
-was-inputs {b = b} {line = line} {m = m} {count = count} {size = size} (whole-inputs e b′ line′ q p h) r =
-    let eb : b′ ≡ b = cc (sym p ∙ r) in
-    let el : line′ ≡ line = cc (sym p ∙ r) in
-    record { of = e; is-inputs = q ∙ (rw (eb, el) refl); above-is = cc (sym r ∙ p); count-is = cc (sym r ∙ p); size-is = cc (sym r ∙ p); held = h }
+pub was-inputs : {x : InputsRead} {types ops : List (List ℕ)} {bytes ends : List ℕ} {r : InputsAnswer} {n : Numbers} → InputsIn x types ops bytes ends r → r ≡ answers.Read n
+    → InputsWas x types ops bytes ends n
+was-inputs {n = n} (whole-inputs e b line q p h) r =
+    let y : _≡_ {A = Numbers} n (record { end = b; line = line; largest = largest (e .opcodes); count = length (e .ends); size = length (e .bytes) }) = cc (sym r ∙ p) in
+    record {
+      of = e;
+      is-inputs = q ∙ sym (ap (λ (m : Numbers). inputs e (m .end) (m .line)) y);
+      largest-is = ap (λ (m : Numbers). m .largest) y;
+      count-is = ap (λ (m : Numbers). m .count) y;
+      size-is = ap (λ (m : Numbers). m .size) y;
+      held = h;
+    }
 was-inputs (faulty-inputs line q p) r = absurd (let z : _≡_ {A = ℕ} 0 1 = cc (sym p ∙ r) in omega arith)
 
 pub was-bad-inputs : {x : InputsRead} {types ops : List (List ℕ)} {bytes ends : List ℕ} {r : InputsAnswer} {line : ℕ} → InputsIn x types ops bytes ends r → r ≡ answers.BadLine line
@@ -60,17 +67,17 @@ pub was-bad-inputs : {x : InputsRead} {types ops : List (List ℕ)} {bytes ends 
 was-bad-inputs (whole-inputs e b′ line′ q p h) r = absurd (let z : _≡_ {A = ℕ} 0 1 = cc (sym p ∙ r) in omega arith)
 was-bad-inputs {line = line} (faulty-inputs line′ q p) r = let z : line′ ≡ line = cc (sym p ∙ r) in q ∙ ap badInputs z
 
-module _ (job : List ℕ) (start : ℕ) {types ops : List (List ℕ)} {bytes ends : List ℕ} {b line m count size : ℕ} (w : InputsWas (inputsAt job start 2) types ops bytes ends b line m count size) (h : length job ≤ 65536) where
+module _ (job : List ℕ) (start : ℕ) {types ops : List (List ℕ)} {bytes ends : List ℕ} {n : Numbers} (w : InputsWas (inputsAt job start 2) types ops bytes ends n) (h : length job ≤ 65536) where
   -- its sizes and line
-  pub inputs-fits : (count ≤ 4096) × (size ≤ 32768) × (line ≤ 65536)
+  pub inputs-fits : (n .count ≤ 4096) × (n .size ≤ 32768) × (n .line ≤ 65536)
   inputs-fits =
-      let s = inputs-size job start 2 (w .of) b line (w .is-inputs) in
+      let s = inputs-size job start 2 (w .of) (n .end) (n .line) (w .is-inputs) in
       (omega (arith, w .count-is, s .0), omega (arith, w .size-is, s .1 .0), omega (arith, s .1 .1))
 
   -- the arrays' fronts are the inputs' strings
-  pub inputs-held : (texts tableEnds : List ℕ) → texts ≡ take size bytes → tableEnds ≡ take count ends → size ≤ length bytes → count ≤ length ends
+  pub inputs-held : (texts tableEnds : List ℕ) → texts ≡ take (n .size) bytes → tableEnds ≡ take (n .count) ends → n .size ≤ length bytes → n .count ≤ length ends
       → _≡_ {A = JobInputs} (record { opcodes = w .of .opcodes; bytes = texts; ends = tableEnds }) (w .of)
-  inputs-held texts tableEnds p q l n =
+  inputs-held texts tableEnds p q l m =
       let t = p ∙ (ap (λ (j : ℕ). take j bytes) (w .size-is) ∙ w .held .strings (omega (arith, w .size-is))) in
       let d = q ∙ (ap (λ (j : ℕ). take j ends) (w .count-is) ∙ w .held .string-ends (omega (arith, w .count-is))) in
       rw (t, d) refl

@@ -17,7 +17,8 @@ use Rattle.job_read.specs.HexAnswers.{Lined}
 use Rattle.job_read.specs.TableAnswers.{Tabled}
 use Rattle.job_read.specs.TableAnswers.Tabled.{whole, faulty}
 use Rattle.job_read.specs.declared.hex.HexLine.{HexLine}
-use Rattle.job_read.specs.declared.hex.HexLine.the-variants.{To, Malformed}
+use Rattle.job_read.specs.declared.hex.HexLine.the-variants as lines
+use Rattle.job_read.specs.declared.hex.HexRead.{HexRead as Numbers}
 use Rattle.job_read.specs.declared.table.TableAnswer.the-variants.{Read, FaultAfter}
 use Rattle.job_read.proofs.HexAnswerLaws.{Wrote, was-line, was-malformed, written-opens}
 
@@ -50,7 +51,7 @@ begin s start count bytes ends h = record {
 }
 
 module _ (s : List ℕ) (start count : ℕ) (bytes₀ ends₀ bytes ends : List ℕ) (at k i : ℕ) (g : Going s start count bytes₀ ends₀ bytes ends at k i) where
-  pub ended : count ≤ i → Tabled (stringsFrom count s start [] []) bytes ends (Read at i k)
+  pub ended : count ≤ i → Tabled (stringsFrom count s start [] []) bytes ends (Read (record { end = at; count = i; size = k }))
   unfolding stringsFrom
   ended h =
       let e : count - i ≡ 0 = omega arith in
@@ -61,12 +62,18 @@ module _ (s : List ℕ) (start count : ℕ) (bytes₀ ends₀ bytes ends : List 
     less : count - i ≡ suc (count - (i + 1))
     less = omega arith
 
-    pub stopped : (ends′ : List ℕ) → r ≡ Malformed → Tabled (stringsFrom count s start [] []) bytes′ ends′ (FaultAfter (i + 1))
+    pub stopped : (ends′ : List ℕ) → r ≡ lines.Malformed → Tabled (stringsFrom count s start [] []) bytes′ ends′ (FaultAfter (i + 1))
     stopped ends′ q =
         let n : suc (length (g .seen-ends)) ≡ i + 1 = omega (arith, g .number) in
         faulty (i + 1) (g .left ∙ (rw less (string-off (count - (i + 1)) s at (g .seen) (g .seen-ends) (was-malformed t q)) ∙ ap faultAfter n)) refl
 
-    module _ (b next : ℕ) (q : r ≡ To b next) (limit : length s ≤ 65536) where
+    module _ {n : Numbers} (q : r ≡ lines.Read n) (limit : length s ≤ 65536) where
+      abbrev b : ℕ
+      b = n .end
+
+      abbrev next : ℕ
+      next = n .next
+
       read : Wrote (keyedHexAt (text "s=") s at) bytes k bytes′ b next
       read = was-line t q
 

@@ -8,7 +8,7 @@ use Rattle.lists.specs.Scan.{opens}
 use Rattle.lists.specs.Text.{text}
 use Rattle.spec_sheet.specs.Scan.{Step}
 use Rattle.spec_sheet.specs.Scan.Step.{next, off}
-use Rattle.spec_sheet.specs.Sheet.{typeRows, infoRows, above}
+use Rattle.spec_sheet.specs.Sheet.{typeRows, infoRows, largest}
 use Rattle.spec_job.specs.Job.{JobInputs, InputsRead, JobRead}
 use Rattle.spec_job.specs.Job.InputsRead.{inputs, badInputs}
 use Rattle.spec_job.specs.Job.JobRead.{badLine}
@@ -33,10 +33,10 @@ pub record Holds (e : JobInputs) (types infos : List (List ℕ)) (bytes ends : L
   pub strings : Opens bytes (e .bytes)
   pub string-ends : Opens ends (e .ends)
 
--- inputs that evaluate to x were read, and r was answered: the place and line behind it, one more than its largest opcode,
--- its strings' and their bytes' number
+-- inputs that evaluate to x were read, and r was answered: the place and line behind them, the largest opcode, the strings'
+-- and their bytes' number
 pub data InputsIn (x : InputsRead) (types infos : List (List ℕ)) (bytes ends : List ℕ) (r : InputsAnswer) : Type 0 where
-  whole : (e : JobInputs) (b line : ℕ) → x ≡ inputs e b line → r ≡ answers.Read b line (above 0 (e .opcodes)) (length (e .ends)) (length (e .bytes)) → Holds e types infos bytes ends → InputsIn x types infos bytes ends r
+  whole : (e : JobInputs) (b line : ℕ) → x ≡ inputs e b line → r ≡ answers.Read (record { end = b; line = line; largest = largest (e .opcodes); count = length (e .ends); size = length (e .bytes) }) → Holds e types infos bytes ends → InputsIn x types infos bytes ends r
   faulty : (line : ℕ) → x ≡ badInputs line → r ≡ answers.BadLine line → InputsIn x types infos bytes ends r
 
 -- a body was read likewise; x continues with the body, as `withBody` does

@@ -15,5 +15,5 @@ Opens lent s = length s ≤ length lent → take (length s) lent ≡ s
 -- a table that evaluates to x was read into `bytes` and `ends`, and r was answered: the place behind it, its strings' and its
 -- bytes' number
 pub data Tabled (x : TableRead) (bytes ends : List ℕ) (r : TableAnswer) : Type 0 where
-  whole : (bs es : List ℕ) (b : ℕ) → x ≡ table bs es b → r ≡ Read b (length es) (length bs) → Opens bytes bs → Opens ends es → Tabled x bytes ends r
+  whole : (bs es : List ℕ) (b : ℕ) → x ≡ table bs es b → r ≡ Read (record { end = b; count = length es; size = length bs }) → Opens bytes bs → Opens ends es → Tabled x bytes ends r
   faulty : (k : ℕ) → x ≡ faultAfter k → r ≡ FaultAfter k → Tabled x bytes ends r

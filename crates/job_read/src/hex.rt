@@ -8,9 +8,14 @@ ghost use Rattle.job_read.specs.HexAnswers.{Lined};
 use numbers::parse::digit_value;
 use sheet::scan::Step;
 
-// A line that was read: the place behind it and the next position of the lent bytes.
+// A line that was read: the place behind it, and the next position of the lent bytes.
+pub struct HexRead {
+    pub end: usize,
+    pub next: usize,
+}
+
 pub enum HexLine {
-    To(usize, usize),
+    Read(HexRead),
     Malformed,
 }
 
@@ -32,7 +37,10 @@ pub fn hex_at(s: &[u8], start: usize, out: &mut [u8], from: usize) -> HexLine
     let mut k = from;
     while at < s.len() {
         if s[at] == 10 {
-            return HexLine::To(at + 1, k);
+            return HexLine::Read(HexRead {
+                end: at + 1,
+                next: k,
+            });
         }
         let high = digit_at(s, at);
         if 15 < high {

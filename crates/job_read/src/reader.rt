@@ -31,10 +31,19 @@ pub fn which_job(s: &[u8]) -> Asked
     Asked::Other
 }
 
-// Inputs that were read: the place behind it and the number of the line there, one more than its largest opcode, how
-// many strings it has and how many bytes; or the malformed line, numbered in the job.
+// Inputs that were read: the place behind them and the number of the line there, the largest opcode, how many strings
+// there are and how many bytes these have.
+pub struct InputsRead {
+    pub end: usize,
+    pub line: usize,
+    pub largest: usize,
+    pub count: usize,
+    pub size: usize,
+}
+
+// What reading inputs answers: the inputs, or the malformed line, numbered in the job.
 pub enum InputsAnswer {
-    Read(usize, usize, usize, usize, usize),
+    Read(InputsRead),
     BadLine(usize),
 }
 
@@ -53,17 +62,17 @@ pub fn inputs_at(
 {
     let r = sheet::opcode::sheet_at(s, at, types, ops);
     match r {
-        Sheet::Read(_, lines, above, b) => {
-            let strings_line = line + 2 + lines;
-            let t = crate::table::table_at(s, b, bytes, ends);
+        Sheet::Read(sheet) => {
+            let strings_line = line + 2 + sheet.count;
+            let t = crate::table::table_at(s, sheet.end, bytes, ends);
             match t {
-                TableAnswer::Read(place, count, size) => InputsAnswer::Read(
-                    place,
-                    strings_line + 1 + count,
-                    above,
-                    count,
-                    size,
-                ),
+                TableAnswer::Read(table) => InputsAnswer::Read(InputsRead {
+                    end: table.end,
+                    line: strings_line + 1 + table.count,
+                    largest: sheet.largest,
+                    count: table.count,
+                    size: table.size,
+                }),
                 TableAnswer::FaultAfter(k) => InputsAnswer::BadLine(strings_line + k),
             }
         }
@@ -83,11 +92,11 @@ pub fn body_at(s: &[u8], at: usize, line: usize, out: &mut [u8]) -> BodyAnswer
     ensures { λ r. ⌜ BodyIn (withBody (now (s .entry)) at line) (now (out .exit)) r ⌝ }
 {
     let l = crate::hex::keyed_hex_at(s, at, b"body=", out, 0);
-    let HexLine::To(b, n) = l else {
+    let HexLine::Read(body) = l else {
         return BodyAnswer::BadLine(line);
     };
-    if b == s.len() {
-        return BodyAnswer::Read(n);
+    if body.end == s.len() {
+        return BodyAnswer::Read(body.next);
     }
     BodyAnswer::BadLine(line + 1)
 }

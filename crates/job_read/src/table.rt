@@ -10,10 +10,16 @@ ghost use Rattle.job_read.specs.TableAnswers.{Tabled};
 use crate::hex::HexLine;
 use sheet::scan::Step;
 
-// A table that was read: the place behind it, how many strings it has and how many bytes; or how many of its lines were
-// in order.
+// A table that was read: the place behind it, how many strings it has and how many bytes.
+pub struct TableRead {
+    pub end: usize,
+    pub count: usize,
+    pub size: usize,
+}
+
+// What reading a table answers: the table, or how many of its lines were in order.
 pub enum TableAnswer {
-    Read(usize, usize, usize),
+    Read(TableRead),
     FaultAfter(usize),
 }
 
@@ -40,15 +46,19 @@ fn strings_from(
     let mut i: usize = 0;
     while i < count {
         let l = string_at(s, at, bytes, k);
-        let HexLine::To(b, next) = l else {
+        let HexLine::Read(string) = l else {
             return TableAnswer::FaultAfter(i + 1);
         };
-        ends[i] = next as u32;
-        at = b;
-        k = next;
+        ends[i] = string.next as u32;
+        at = string.end;
+        k = string.next;
         i += 1;
     }
-    TableAnswer::Read(at, i, k)
+    TableAnswer::Read(TableRead {
+        end: at,
+        count: i,
+        size: k,
+    })
 }
 
 // The table that stands at `at`. Its bytes are kept where they fit.

@@ -1,32 +1,46 @@
 -- Outcomes under inputs, case by case. Assumes nothing.
 use mathlib.Core.Path.{_≡_, refl, ap, sym, _∙_}
 use mathlib.Core.List.{List}
-use Prim.Native.Nat.{ℕ, _-_}
+use Prim.Native.Nat.{ℕ}
 use native.Mathlib.Omega.{arith}
-use Rattle.spec_sheet.specs.Sheet.{sheetOf}
+use Rattle.spec_sheet.specs.Sheet.{SheetRead, sheetOf}
 use Rattle.spec_sheet.specs.Sheet.SheetRead.{sheet, malformed}
 use Rattle.spec_answers.specs.Outcome.{Outcome}
-use Rattle.spec_inputs.specs.Inputs.{underTable, underContext, underInputs}
-use Rattle.sheet.specs.Sheets.{typesIn, infosIn}
-use Rattle.sheet.proofs.UnderSheet.{ReadAs, few-opcodes}
+use Rattle.spec_inputs.specs.Inputs.{underTable, underSheet, underContext, underInputs}
+use Rattle.spec_answers.specs.Outcome.Outcome.{refusedWith}
+use Rattle.sheet.specs.Sheets.{sheetAnswer, typesIn, infosIn}
+use Rattle.sheet.specs.declared.opcode.SheetRead.{SheetRead as Numbers}
+use Rattle.sheet.specs.declared.opcode.Sheet.the-variants as sheets
+use Rattle.sheet.proofs.SheetAnswers as answers
+use Rattle.sheet.proofs.SheetAnswers.{few-opcodes}
 use Rattle.operation.specs.Read.{inputsReport, Under, SheetGiven, Given}
 use Rattle.operation.specs.Read.Under.{ready, refused}
 use Rattle.operation.specs.declared.inputs.Inputs.{Inputs}
 use Rattle.operation.proofs.TableLaws.{AreRefused}
 use Rattle.operation.specs.declared.inputs.Inputs.the-variants.{Ready, Malformed}
 
--- a sheet that was read
-pub was-read : (text : List ℕ) (m : ℕ) (r : ReadAs (sheetOf text) m) (types ops : List (List ℕ)) → types ≡ typesIn (sheetOf text) → ops ≡ infosIn (sheetOf text)
-    → SheetGiven text types ops (Ready (m - 1))
-unfolding underContext typesIn infosIn
-was-read text m r types ops t o bytes ends =
-    let e = r .is-sheet in
-    let k = r .above-is in
-    ready (r .of .opcodes) (t ∙ (rw e)) (o ∙ (rw e)) (omega (arith, k, few-opcodes text m r)) (λ then. rw e) (ap (λ (n : ℕ). Ready (n - 1)) (sym k))
+-- what follows a sheet that was read, and one that is malformed
+module _ (x : SheetRead) (then : List (List ℕ) → ℕ → Outcome) where
+  pub under-read : {r : Numbers} → sheetAnswer x ≡ sheets.Read r → underSheet x then ≡ then (typesIn x) (r .largest)
+  unfolding underSheet typesIn
+  under-read e = let w = answers.was-read x e in rw (w .is-sheet, w .last)
 
-pub was-malformed : (text : List ℕ) (line : ℕ) (types ops : List (List ℕ)) → sheetOf text ≡ malformed line → SheetGiven text types ops (Malformed line)
+  pub under-none : {k : ℕ} → sheetAnswer x ≡ sheets.Malformed k → underSheet x then ≡ refusedWith 1 k 0
+  unfolding underSheet
+  under-none e = rw (answers.was-malformed x e)
+
+-- a sheet that was read
+pub was-read : (text : List ℕ) {r : Numbers} → sheetAnswer (sheetOf text) ≡ sheets.Read r → (types ops : List (List ℕ)) → types ≡ typesIn (sheetOf text) → ops ≡ infosIn (sheetOf text)
+    → SheetGiven text types ops (Ready (r .largest))
+unfolding underContext typesIn infosIn
+was-read text a types ops t o bytes ends =
+    let w = answers.was-read (sheetOf text) a in
+    let e = w .is-sheet in
+    ready (w .of .opcodes) (t ∙ ap typesIn e) (o ∙ ap infosIn e) (omega (arith, w .last, few-opcodes text a)) (λ then. ap (λ (x : SheetRead). underContext x text bytes ends then) e) (ap Ready (sym (w .last)))
+
+pub was-malformed : (text : List ℕ) {line : ℕ} (types ops : List (List ℕ)) → sheetAnswer (sheetOf text) ≡ sheets.Malformed line → SheetGiven text types ops (Malformed line)
 unfolding underContext inputsReport
-was-malformed text line types ops e bytes ends = refused 1 line (omega arith) (λ then. rw e) refl
+was-malformed text {line} types ops a bytes ends = refused 1 line (omega arith) (λ then. rw (answers.was-malformed (sheetOf text) a)) refl
 
 -- the table's refusals come first
 pub table-refused : {text bytes ends : List ℕ} {types ops : List (List ℕ)} {i : Inputs} → AreRefused bytes ends i → Given text bytes ends types ops i

@@ -19,7 +19,7 @@ fn read_tables(sheet: &[u8], types: &mut [[u8; 8]; 256], ops: &mut [[usize; 4]; 
 {
     let s = sheet::opcode::read_sheet(sheet, types, ops);
     match s {
-        Sheet::Read(_, _, above, _) => Inputs::Ready(above - 1),
+        Sheet::Read(read) => Inputs::Ready(read.largest),
         Sheet::Malformed(line) => Inputs::Malformed(line),
     }
 }

@@ -6,5 +6,4 @@ pub mod FilterLaws
 pub mod StoreLaws
 pub mod OpsLoop
 pub mod SheetAnswers
-pub mod UnderSheet
 pub mod NameWalk

@@ -3,7 +3,7 @@ use Prim.Native.Nat.{ℕ}
 use mathlib.Core.List.{List}
 use lib.ListN.{length}
 use Rattle.spec_sheet.specs.Sheet as spec
-use Rattle.spec_sheet.specs.Sheet.{typeRows, infoRows, noTypeRows, noInfoRows, above}
+use Rattle.spec_sheet.specs.Sheet.{typeRows, infoRows, noTypeRows, noInfoRows, above, largest}
 use Rattle.spec_sheet.specs.Sheet.OpsRead.{allRead, faultAfter}
 use Rattle.spec_sheet.specs.Sheet.SheetRead.{sheet, malformed}
 use Rattle.sheet.specs.declared.opcode.Ops.{Ops}
@@ -18,7 +18,7 @@ opsOf (faultAfter n) = FaultAfter n
 
 -- what reading a sheet answers, and the two tables afterwards; a malformed sheet leaves them zero
 unfoldable pub sheetAnswer : spec.SheetRead → Sheet
-sheetAnswer (sheet sh at) = Read (sh .version) (length (sh .opcodes)) (above 0 (sh .opcodes)) at
+sheetAnswer (sheet sh at) = Read (record { version = sh .version; count = length (sh .opcodes); largest = largest (sh .opcodes); end = at })
 sheetAnswer (malformed k) = Malformed k
 
 unfoldable pub typesIn : spec.SheetRead → List (List ℕ)

@@ -53,10 +53,17 @@ fn reset(types: &mut [[u8; 8]; 256], ops: &mut [[usize; 4]; 256])
     *ops = [[0usize; 4]; 256];
 }
 
-// A sheet: its version, how many opcode lines it has, one more than its largest opcode, and the place behind it; or the
-// malformed line, from 1.
+// A sheet that was read: its version, how many opcode lines it has, its largest opcode, and the place behind it.
+pub struct SheetRead {
+    pub version: u64,
+    pub count: usize,
+    pub largest: usize,
+    pub end: usize,
+}
+
+// What reading a sheet answers: the sheet, or the malformed line, from 1.
 pub enum Sheet {
-    Read(u64, usize, usize, usize),
+    Read(SheetRead),
     Malformed(usize),
 }
 
@@ -86,7 +93,12 @@ pub fn sheet_at(
     let lines = count as usize;
     let o = read_ops(s, b, lines, types, ops);
     match o {
-        Ops::All(above, next) => Sheet::Read(version, lines, above, next),
+        Ops::All(above, end) => Sheet::Read(SheetRead {
+            version,
+            count: lines,
+            largest: above - 1,
+            end,
+        }),
         Ops::FaultAfter(k) => {
             reset(types, ops);
             Sheet::Malformed(3 + k)
@@ -102,12 +114,12 @@ pub fn read_sheet(s: &[u8], types: &mut [[u8; 8]; 256], ops: &mut [[usize; 4]; 2
 {
     let r = sheet_at(s, 0, types, ops);
     match r {
-        Sheet::Read(_, lines, _, next) => {
-            if next == s.len() {
+        Sheet::Read(sheet) => {
+            if sheet.end == s.len() {
                 return r;
             }
             reset(types, ops);
-            Sheet::Malformed(3 + lines)
+            Sheet::Malformed(3 + sheet.count)
         }
         Sheet::Malformed(_) => r,
     }

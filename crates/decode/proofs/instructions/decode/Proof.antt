@@ -1,9 +1,8 @@
-use Rattle.decode.proofs.DecodeCases.{under-read, under-none, decode-large, decode-small}
+use Rattle.decode.proofs.DecodeCases.{decode-large, decode-small}
 use Rattle.decode.proofs.BodyAnswers.{refused}
-use Rattle.sheet.proofs.UnderSheet.{read-as, malformed-as, some-opcode}
+use Rattle.operation.proofs.UnderLaws.{under-read, under-none}
 use Rattle.decode.specs.declared.answer.DecodeAnswer.the-variants as answer
 use Rattle.decode.specs.Answers.{decodeReport}
-use native.Mathlib.Omega.{arith}
 use mathlib.Core.Path.{refl, sym, _∙_}
 use borrow.Author.Needs.{needs}
 use Rattle.decode.proofs.instructions.decode.Statement.{statement}
@@ -28,11 +27,6 @@ read-sheet-requires c κs = search needs
 enum-known-read : tie.Need-enum-known-read
 enum-known-read c = search needs
 
-sub-decode-under : tie.Need-sub-decode-under
-sub-decode-under c =
-    let s = c .before .before .before .before .read-sheet .ensures in
-    omega (arith, some-opcode (c .before .before .before .before .before .before .before .before .before .before .before .args .sheet .now) _ (read-as _ _ _ _ _ (sym (s .0) ∙ c .before .before .read .given .1)))
-
 decode-under-requires : tie.Need-decode-under-requires
 decode-under-requires c κs = search needs
 
@@ -49,8 +43,8 @@ returns-2 : tie.Need-returns-2
 returns-2 c =
     let a = c .before .before .before .before .before .before .before .before .before .before .before .before .before .before .before .args in
     let s = c .before .before .before .before .before .before .before .before .read-sheet .ensures in
-    let r = read-as _ _ _ _ _ (sym (s .0) ∙ c .before .before .before .before .before .before .read .given .1) in
-    let e = decode-small (a .sheet .now) (a .body .now) (c .before .before .before .before .before .before .before .before .before .before .before .if1 .left) ∙ under-read _ _ r _ in
+    let r = under-read _ _ (sym (s .0) ∙ c .before .before .before .before .before .before .read .given .1) in
+    let e = decode-small (a .sheet .now) (a .body .now) (c .before .before .before .before .before .before .before .before .before .before .before .if1 .left) ∙ r in
     rw (e, sym (s .1 .0)) (c .before .before .decode-under .ensures)
 
 same-length-3 : tie.Need-same-length-3
@@ -61,24 +55,11 @@ unfolding decodeReport
 returns-3 c =
     let a = c .before .before .before .before .before .before .before .before .before .before .before .before .before .before .args in
     let s = c .before .before .before .before .before .before .before .read-sheet .ensures in
-    let e = decode-small (a .sheet .now) (a .body .now) (c .before .before .before .before .before .before .before .before .before .before .if1 .left) ∙ under-none _ _ _ (malformed-as _ _ (sym (s .0) ∙ c .before .before .before .before .before .read2 .given .1)) in
+    let e = decode-small (a .sheet .now) (a .body .now) (c .before .before .before .before .before .before .before .before .before .before .if1 .left) ∙ under-none _ _ (sym (s .0) ∙ c .before .before .before .before .before .read2 .given .1) in
     let w = refused _ (answer.Malformed (c .before .before .before .before .before .read2 .given .0 .0)) 1 _ 0 (a .out .now) _ e refl (c .before .before .clear-words2 .ensures) in
     (w .answer-is, w .words-are)
 
 pub decode-spec : {M : Type 1} → statement M
 decode-spec =
     tie.close
-    (tie.spec
-    clear-words-requires
-    same-length
-    returns
-    read-sheet-requires
-    enum-known-read
-    sub-decode-under
-    decode-under-requires
-    enum-known-read-2
-    clear-words-requires-2
-    same-length-2
-    returns-2
-    same-length-3
-    returns-3)
+    (tie.spec clear-words-requires same-length returns read-sheet-requires enum-known-read decode-under-requires enum-known-read-2 clear-words-requires-2 same-length-2 returns-2 same-length-3 returns-3)

@@ -1,10 +1,8 @@
-use Rattle.decode.proofs.DecodeCases.{under-read, under-none}
 use Rattle.decode.proofs.BodyAnswers.{refused}
-use Rattle.sheet.proofs.UnderSheet.{read-as, malformed-as, some-opcode}
+use Rattle.operation.proofs.UnderLaws.{under-read, under-none}
 use Rattle.decode.specs.declared.answer.DecodeAnswer.the-variants as answer
 use Rattle.decode.specs.Answers.{decodeReport}
 use Rattle.spec_body.specs.Operation.{decodeFunction}
-use native.Mathlib.Omega.{arith}
 use mathlib.Core.Path.{refl, sym, _∙_}
 use borrow.Author.Needs.{needs}
 use Rattle.decode.proofs.instructions.decode_function.Statement.{statement}
@@ -15,11 +13,6 @@ read-sheet-requires c κs = search needs
 
 enum-known-read : tie.Need-enum-known-read
 enum-known-read c = search needs
-
-sub-function-under : tie.Need-sub-function-under
-sub-function-under c =
-    let s = c .before .before .before .before .read-sheet .ensures in
-    omega (arith, some-opcode (c .before .before .before .before .before .before .before .before .before .before .before .args .sheet .now) _ (read-as _ _ _ _ _ (sym (s .0) ∙ c .before .before .read .given .1)))
 
 function-under-requires : tie.Need-function-under-requires
 function-under-requires c κs = search needs
@@ -37,8 +30,7 @@ returns : tie.Need-returns
 unfolding decodeFunction
 returns c =
     let s = c .before .before .before .before .before .before .before .before .read-sheet .ensures in
-    let r = read-as _ _ _ _ _ (sym (s .0) ∙ c .before .before .before .before .before .before .read .given .1) in
-    rw (under-read _ _ r _, sym (s .1 .0)) (c .before .before .function-under .ensures)
+    rw (under-read _ _ (sym (s .0) ∙ c .before .before .before .before .before .before .read .given .1), sym (s .1 .0)) (c .before .before .function-under .ensures)
 
 same-length-2 : tie.Need-same-length-2
 same-length-2 c = search needs
@@ -48,21 +40,11 @@ unfolding decodeFunction decodeReport
 returns-2 c =
     let a = c .before .before .before .before .before .before .before .before .before .before .before .before .before .before .args in
     let s = c .before .before .before .before .before .before .before .read-sheet .ensures in
-    let e = under-none _ _ _ (malformed-as _ _ (sym (s .0) ∙ c .before .before .before .before .before .read2 .given .1)) in
+    let e = under-none _ _ (sym (s .0) ∙ c .before .before .before .before .before .read2 .given .1) in
     let w = refused _ (answer.Malformed (c .before .before .before .before .before .read2 .given .0 .0)) 1 _ 0 (a .out .now) _ e refl (c .before .before .clear-words .ensures) in
     (w .answer-is, w .words-are)
 
 pub decode-function-spec : {M : Type 1} → statement M
 decode-function-spec =
     tie.close
-    (tie.spec
-    read-sheet-requires
-    enum-known-read
-    sub-function-under
-    function-under-requires
-    enum-known-read-2
-    clear-words-requires
-    same-length
-    returns
-    same-length-2
-    returns-2)
+    (tie.spec read-sheet-requires enum-known-read function-under-requires enum-known-read-2 clear-words-requires same-length returns same-length-2 returns-2)

@@ -1,5 +1,5 @@
 use Rattle.encode.proofs.EncodeAnswers.{encode-read, encode-none}
-use Rattle.sheet.proofs.UnderSheet.{read-as, few-opcodes}
+use Rattle.sheet.proofs.SheetAnswers.{few-opcodes}
 use native.Mathlib.Omega.{arith}
 use mathlib.Core.Path.{sym, _∙_}
 use borrow.Author.Needs.{needs}
@@ -12,13 +12,10 @@ read-sheet-requires c κs = search needs
 enum-known-s : tie.Need-enum-known-s
 enum-known-s c = search needs
 
-largest-of-requires : tie.Need-largest-of-requires
-largest-of-requires c κs = search needs
-
 encode-under-requires : tie.Need-encode-under-requires
 encode-under-requires c κs =
-    let t = c .before .before .before .before .before .before .before .before .before .before .before .before .args .sheet .now in
-    omega (arith, c .before .before .largest-of .ensures, few-opcodes t _ (read-as _ _ _ _ _ (sym (c .before .before .before .before .before .before .read-sheet .ensures .0) ∙ c .before .before .before .before .s .given .1)))
+    let t = c .before .before .before .before .before .before .before .before .before .before .before .args .sheet .now in
+    omega (arith, few-opcodes t (sym (c .before .before .before .before .before .read-sheet .ensures .0) ∙ c .before .before .before .s .given .1))
 
 enum-known-s-2 : tie.Need-enum-known-s-2
 enum-known-s-2 c = search needs
@@ -31,9 +28,9 @@ same-length c = search needs
 
 returns : tie.Need-returns
 returns c =
-    let a = c .before .before .before .before .before .before .before .before .before .before .before .before .before .before .before .args in
-    let w = c .before .before .before .before .before .before .before .before .before .read-sheet .ensures in
-    rw (encode-read (a .sheet .now) (a .words .now) _ _ _ _ (sym (w .0) ∙ c .before .before .before .before .before .before .before .s .given .1), ← (w .1 .0), ← (c .before .before .before .before .before .largest-of .ensures)) (c .before .before .encode-under .ensures)
+    let a = c .before .before .before .before .before .before .before .before .before .before .before .before .before .before .args in
+    let w = c .before .before .before .before .before .before .before .before .read-sheet .ensures in
+    rw (encode-read (a .sheet .now) (a .words .now) (sym (w .0) ∙ c .before .before .before .before .before .before .s .given .1), ← (w .1 .0)) (c .before .before .encode-under .ensures)
 
 same-length-2 : tie.Need-same-length-2
 same-length-2 c = search needs
@@ -47,14 +44,4 @@ returns-2 c =
 pub encode-spec : {M : Type 1} → statement M
 encode-spec =
     tie.close
-    (tie.spec
-    read-sheet-requires
-    enum-known-s
-    largest-of-requires
-    encode-under-requires
-    enum-known-s-2
-    clear-requires
-    same-length
-    returns
-    same-length-2
-    returns-2)
+    (tie.spec read-sheet-requires enum-known-s encode-under-requires enum-known-s-2 clear-requires same-length returns same-length-2 returns-2)

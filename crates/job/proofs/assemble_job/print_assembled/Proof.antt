@@ -16,10 +16,10 @@ body-space-requires : tie.Need-body-space-requires
 body-space-requires c κs = search needs
 
 sub-assemble-inputs : tie.Need-sub-assemble-inputs
-sub-assemble-inputs c = omega (arith, was-text (c .before .before .before .before .before .before .before .before .before .args .job .now) (c .before .before .before .before .before .before .before .before .before .args .at) (c .before .before .before .before .before .before .before .before .before .args .line) _ (sym (c .before .before .before .before .text-at .ensures) ∙ c .before .before .t .given .1) .inside)
+sub-assemble-inputs c = omega (arith, was-text (c .before .before .before .before .before .before .before .before .before .args .job .now) (c .before .before .before .before .before .before .before .before .before .args .read .end) (c .before .before .before .before .before .before .before .before .before .args .read .line) _ (sym (c .before .before .before .before .text-at .ensures) ∙ c .before .before .t .given .1) .inside)
 
 part-assemble-inputs-start : tie.Need-part-assemble-inputs-start
-part-assemble-inputs-start c = omega (arith, was-text (c .before .before .before .before .before .before .before .before .before .args .job .now) (c .before .before .before .before .before .before .before .before .before .args .at) (c .before .before .before .before .before .before .before .before .before .args .line) _ (sym (c .before .before .before .before .text-at .ensures) ∙ c .before .before .t .given .1) .inside)
+part-assemble-inputs-start c = omega (arith, was-text (c .before .before .before .before .before .before .before .before .before .args .job .now) (c .before .before .before .before .before .before .before .before .before .args .read .end) (c .before .before .before .before .before .before .before .before .before .args .read .line) _ (sym (c .before .before .before .before .text-at .ensures) ∙ c .before .before .t .given .1) .inside)
 
 part-assemble-inputs-end : tie.Need-part-assemble-inputs-end
 part-assemble-inputs-end c = search needs
@@ -46,31 +46,15 @@ same-length : tie.Need-same-length
 same-length c = search needs
 
 returns : tie.Need-returns
-returns c = λ os t o. let x = c .before .before .before .before .before .before .before .before .before .before .before .before .before .before .before .before .before .before .args in text-prints (x .job .now) (x .at) (x .line) (record { opcodes = os; bytes = x .bytes .now; ends = x .ends .now }) _ (was-text (c .before .before .before .before .before .before .before .before .before .before .before .before .before .before .before .before .before .before .args .job .now) (c .before .before .before .before .before .before .before .before .before .before .before .before .before .before .before .before .before .before .args .at) (c .before .before .before .before .before .before .before .before .before .before .before .before .before .before .before .before .before .before .args .line) _ (sym (c .before .before .before .before .before .before .before .before .before .before .before .before .before .text-at .ensures) ∙ c .before .before .before .before .before .before .before .before .before .before .before .t .given .1)) _ _ _ (to-end (c .before .before .before .before .before .before .before .before .before .before .before .t .given .0 .0) (x .job .now)) (omega arith) _ _ _ _ (c .before .before .before .before .before .before .assemble-inputs .ensures .0 os t o) (c .before .before .put-assembled .ensures)
+returns c = λ os t o. let x = c .before .before .before .before .before .before .before .before .before .before .before .before .before .before .before .before .before .before .args in text-prints (x .job .now) (x .read .end) (x .read .line) (record { opcodes = os; bytes = x .bytes .now; ends = x .ends .now }) _ (was-text (c .before .before .before .before .before .before .before .before .before .before .before .before .before .before .before .before .before .before .args .job .now) (c .before .before .before .before .before .before .before .before .before .before .before .before .before .before .before .before .before .before .args .read .end) (c .before .before .before .before .before .before .before .before .before .before .before .before .before .before .before .before .before .before .args .read .line) _ (sym (c .before .before .before .before .before .before .before .before .before .before .before .before .before .text-at .ensures) ∙ c .before .before .before .before .before .before .before .before .before .before .before .t .given .1)) _ _ _ (to-end (c .before .before .before .before .before .before .before .before .before .before .before .t .given .0 .0) (x .job .now)) (omega arith) _ _ _ _ (c .before .before .before .before .before .before .assemble-inputs .ensures .0 os t o) (c .before .before .put-assembled .ensures)
 
 same-length-2 : tie.Need-same-length-2
 same-length-2 c = search needs
 
 returns-2 : tie.Need-returns-2
-returns-2 c = λ os t o. let x = c .before .before .before .before .before .before .before .before .before .before .before .before .args in line-prints (x .job .now) (was-bad-text (x .job .now) (x .at) (x .line) _ (sym (c .before .before .before .before .before .before .before .text-at .ensures) ∙ c .before .before .before .before .before .t2 .given .1) _) (c .before .before .refused .ensures)
+returns-2 c = λ os t o. let x = c .before .before .before .before .before .before .before .before .before .before .before .before .args in line-prints (x .job .now) (was-bad-text (x .job .now) (x .read .end) (x .read .line) _ (sym (c .before .before .before .before .before .before .before .text-at .ensures) ∙ c .before .before .before .before .before .t2 .given .1) _) (c .before .before .refused .ensures)
 
 pub print-assembled-spec : {M : Type 1} → statement M
 print-assembled-spec =
     tie.close
-    (tie.spec
-    text-at-requires
-    enum-known-t
-    body-space-requires
-    sub-assemble-inputs
-    part-assemble-inputs-start
-    part-assemble-inputs-end
-    slice-aggregate-assemble-inputs
-    assemble-inputs-requires
-    slice-aggregate-put-assembled
-    put-assembled-requires
-    enum-known-t-2
-    refused-requires
-    same-length
-    returns
-    same-length-2
-    returns-2)
+    (tie.spec text-at-requires enum-known-t body-space-requires sub-assemble-inputs part-assemble-inputs-start part-assemble-inputs-end slice-aggregate-assemble-inputs assemble-inputs-requires slice-aggregate-put-assembled put-assembled-requires enum-known-t-2 refused-requires same-length returns same-length-2 returns-2)

@@ -6,9 +6,6 @@ use borrow.Author.Needs.{needs}
 use Rattle.job.proofs.list_job.list_inputs.Statement.{statement}
 use Rattle.job.proofs.list_job.list_inputs.Tie as tie
 
-largest-of-requires : tie.Need-largest-of-requires
-largest-of-requires c κs = search needs
-
 table-inputs-requires : tie.Need-table-inputs-requires
 table-inputs-requires c κs = search needs
 
@@ -34,19 +31,9 @@ same-length-2 : tie.Need-same-length-2
 same-length-2 c = search needs
 
 returns-2 : tie.Need-returns-2
-returns-2 c = λ os t o a. list-ready _ _ _ _ os _ _ _ _ _ _ _ _ (were-ready _ _ _ _ (sym (c .before .before .before .before .before .before .before .table-inputs .ensures) ∙ c .before .before .before .before .before .i .given .1)) t o a (c .before .before .before .before .before .before .before .before .largest-of .ensures) (c .before .before .list-under .ensures)
+returns-2 c = λ os t o a. list-ready _ _ _ _ os _ _ _ _ _ _ _ (were-ready _ _ _ _ (sym (c .before .before .before .before .before .before .before .table-inputs .ensures) ∙ c .before .before .before .before .before .i .given .1)) t o a (c .before .before .list-under .ensures)
 
 pub list-inputs-spec : {M : Type 1} → statement M
 list-inputs-spec =
     tie.close
-    (tie.spec
-    largest-of-requires
-    table-inputs-requires
-    enum-known-i
-    clear-requires
-    refused-inputs-requires
-    same-length
-    returns
-    list-under-requires
-    same-length-2
-    returns-2)
+    (tie.spec table-inputs-requires enum-known-i clear-requires refused-inputs-requires same-length returns list-under-requires same-length-2 returns-2)

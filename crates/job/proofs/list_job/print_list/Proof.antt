@@ -40,7 +40,7 @@ same-length : tie.Need-same-length
 same-length c = search needs
 
 returns : tie.Need-returns
-returns c = λ os t o a. let x = c .before .before .before .before .before .before .before .before .before .before .before .before .before .before .before .before .before .args in let b = was-body (c .before .before .before .before .before .before .before .before .before .before .body-at .ensures) (c .before .before .before .before .before .before .before .b .given .1) in body-prints (x .job .now) (x .at) (x .line) (record { opcodes = os; bytes = x .bytes .now; ends = x .ends .now }) b (front (c .before .before .before .before .before .before .before .b .given .0 .0) (c .before .before .before .before .before .before .before .before .before .before .body-at .last .1 .1 .1 .0)) (omega (arith, body-fits (x .job .now) (x .at) (x .line) b (c .before .before .before .before .before .before .before .before .before .before .before .before .before .before .before .before .before .pre .0))) (c .before .before .print-listing .ensures os t o a)
+returns c = λ os t o a. let x = c .before .before .before .before .before .before .before .before .before .before .before .before .before .before .before .before .before .args in let b = was-body (c .before .before .before .before .before .before .before .before .before .before .body-at .ensures) (c .before .before .before .before .before .before .before .b .given .1) in body-prints (x .job .now) (x .read .end) (x .read .line) (record { opcodes = os; bytes = x .bytes .now; ends = x .ends .now }) b (front (c .before .before .before .before .before .before .before .b .given .0 .0) (c .before .before .before .before .before .before .before .before .before .before .body-at .last .1 .1 .1 .0)) (omega (arith, body-fits (x .job .now) (x .read .end) (x .read .line) b (c .before .before .before .before .before .before .before .before .before .before .before .before .before .before .before .before .before .pre .0))) (c .before .before .print-listing .ensures os t o a)
 
 same-length-2 : tie.Need-same-length-2
 same-length-2 c = search needs
@@ -51,18 +51,4 @@ returns-2 c = λ os t o a. line-prints _ (was-bad-body (c .before .before .befor
 pub print-list-spec : {M : Type 1} → statement M
 print-list-spec =
     tie.close
-    (tie.spec
-    body-space-requires
-    slice-aggregate-body-at
-    body-at-requires
-    enum-known-b
-    sub-print-listing
-    part-print-listing-start
-    part-print-listing-end
-    print-listing-requires
-    enum-known-b-2
-    refused-requires
-    same-length
-    returns
-    same-length-2
-    returns-2)
+    (tie.spec body-space-requires slice-aggregate-body-at body-at-requires enum-known-b sub-print-listing part-print-listing-start part-print-listing-end print-listing-requires enum-known-b-2 refused-requires same-length returns same-length-2 returns-2)

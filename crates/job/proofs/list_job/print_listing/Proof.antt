@@ -28,11 +28,4 @@ returns c = λ os t o a. let x = c .before .before .before .before .before .befo
 pub print-listing-spec : {M : Type 1} → statement M
 print-listing-spec =
     tie.close
-    (tie.spec
-    sub-list-inputs
-    part-list-inputs-start
-    part-list-inputs-end
-    list-inputs-requires
-    put-listed-requires
-    same-length
-    returns)
+    (tie.spec sub-list-inputs part-list-inputs-start part-list-inputs-end list-inputs-requires put-listed-requires same-length returns)

@@ -58,13 +58,13 @@ same-length : tie.Need-same-length
 same-length c = search needs
 
 returns : tie.Need-returns
-returns c = let x = c .before .before .before .before .before .before .before .before .before .before .before .before .before .before .before .before .before .before .before .before .before .before .before .before .before .args in let w = was-inputs (c .before .before .before .before .before .before .before .before .before .before .before .before .before .before .before .before .inputs-at .ensures) (c .before .before .before .before .before .before .before .before .before .before .before .before .e .given .1) in let f = inputs-fits (x .job .now) (x .start) w (c .before .before .before .before .before .before .before .before .before .before .before .before .before .before .before .before .before .before .before .before .before .before .before .before .before .pre .0) in list-prints (x .job .now) (x .start) w (c .before .before .before .before .before .before .before .before .before .before .before .before .before .before .before .before .before .before .before .before .before .before .before .before .before .pre .0) (x .lists) _ _ (front (c .before .before .before .before .before .before .before .before .before .before .before .before .e .given .0 .1 .1 .1 .1 .0) (c .before .before .before .before .before .before .before .before .before .before .before .before .before .before .before .before .inputs-at .last .1 .1 .1 .1 .1 .0)) (front (c .before .before .before .before .before .before .before .before .before .before .before .before .e .given .0 .1 .1 .1 .0) (c .before .before .before .before .before .before .before .before .before .before .before .before .before .before .before .before .inputs-at .last .1 .1 .1 .1 .1 .1 .0)) (omega (arith, f .1)) (omega (arith, f .0)) _ _ _ (c .before .before .before .before .before .before .if1 .taken) (c .before .before .print-list .ensures)
+returns c = let x = c .before .before .before .before .before .before .before .before .before .before .before .before .before .before .before .before .before .before .before .before .before .before .before .before .before .args in let w = was-inputs (c .before .before .before .before .before .before .before .before .before .before .before .before .before .before .before .before .inputs-at .ensures) (c .before .before .before .before .before .before .before .before .before .before .before .before .e .given .1) in let f = inputs-fits (x .job .now) (x .start) w (c .before .before .before .before .before .before .before .before .before .before .before .before .before .before .before .before .before .before .before .before .before .before .before .before .before .pre .0) in list-prints (x .job .now) (x .start) w (c .before .before .before .before .before .before .before .before .before .before .before .before .before .before .before .before .before .before .before .before .before .before .before .before .before .pre .0) (x .lists) _ _ (front (c .before .before .before .before .before .before .before .before .before .before .before .before .e .given .0 .0 .size) (c .before .before .before .before .before .before .before .before .before .before .before .before .before .before .before .before .inputs-at .last .1 .1 .1 .1 .1 .0)) (front (c .before .before .before .before .before .before .before .before .before .before .before .before .e .given .0 .0 .count) (c .before .before .before .before .before .before .before .before .before .before .before .before .before .before .before .before .inputs-at .last .1 .1 .1 .1 .1 .1 .0)) (omega (arith, f .1)) (omega (arith, f .0)) _ _ _ (c .before .before .before .before .before .before .if1 .taken) (c .before .before .print-list .ensures)
 
 same-length-2 : tie.Need-same-length-2
 same-length-2 c = search needs
 
 returns-2 : tie.Need-returns-2
-returns-2 c = let x = c .before .before .before .before .before .before .before .before .before .before .before .before .before .before .before .before .before .before .before .before .before .before .before .before .before .args in let w = was-inputs (c .before .before .before .before .before .before .before .before .before .before .before .before .before .before .before .before .inputs-at .ensures) (c .before .before .before .before .before .before .before .before .before .before .before .before .e .given .1) in let f = inputs-fits (x .job .now) (x .start) w (c .before .before .before .before .before .before .before .before .before .before .before .before .before .before .before .before .before .before .before .before .before .before .before .before .before .pre .0) in assemble-prints (x .job .now) (x .start) w (c .before .before .before .before .before .before .before .before .before .before .before .before .before .before .before .before .before .before .before .before .before .before .before .before .before .pre .0) (x .lists) _ _ (front (c .before .before .before .before .before .before .before .before .before .before .before .before .e .given .0 .1 .1 .1 .1 .0) (c .before .before .before .before .before .before .before .before .before .before .before .before .before .before .before .before .inputs-at .last .1 .1 .1 .1 .1 .0)) (front (c .before .before .before .before .before .before .before .before .before .before .before .before .e .given .0 .1 .1 .1 .0) (c .before .before .before .before .before .before .before .before .before .before .before .before .before .before .before .before .inputs-at .last .1 .1 .1 .1 .1 .1 .0)) (omega (arith, f .1)) (omega (arith, f .0)) _ _ _ (c .before .before .before .before .before .before .if1 .left) (c .before .before .print-assembled .ensures)
+returns-2 c = let x = c .before .before .before .before .before .before .before .before .before .before .before .before .before .before .before .before .before .before .before .before .before .before .before .before .before .args in let w = was-inputs (c .before .before .before .before .before .before .before .before .before .before .before .before .before .before .before .before .inputs-at .ensures) (c .before .before .before .before .before .before .before .before .before .before .before .before .e .given .1) in let f = inputs-fits (x .job .now) (x .start) w (c .before .before .before .before .before .before .before .before .before .before .before .before .before .before .before .before .before .before .before .before .before .before .before .before .before .pre .0) in assemble-prints (x .job .now) (x .start) w (c .before .before .before .before .before .before .before .before .before .before .before .before .before .before .before .before .before .before .before .before .before .before .before .before .before .pre .0) (x .lists) _ _ (front (c .before .before .before .before .before .before .before .before .before .before .before .before .e .given .0 .0 .size) (c .before .before .before .before .before .before .before .before .before .before .before .before .before .before .before .before .inputs-at .last .1 .1 .1 .1 .1 .0)) (front (c .before .before .before .before .before .before .before .before .before .before .before .before .e .given .0 .0 .count) (c .before .before .before .before .before .before .before .before .before .before .before .before .before .before .before .before .inputs-at .last .1 .1 .1 .1 .1 .1 .0)) (omega (arith, f .1)) (omega (arith, f .0)) _ _ _ (c .before .before .before .before .before .before .if1 .left) (c .before .before .print-assembled .ensures)
 
 same-length-3 : tie.Need-same-length-3
 same-length-3 c = search needs
@@ -75,26 +75,4 @@ returns-3 c = let x = c .before .before .before .before .before .before .before 
 pub print-job-spec : {M : Type 1} → statement M
 print-job-spec =
     tie.close
-    (tie.spec
-    string-space-requires
-    end-space-requires
-    slice-aggregate-inputs-at
-    slice-aggregate-inputs-at-2
-    inputs-at-requires
-    enum-known-e
-    sub-texts
-    part-texts-start
-    part-texts-end
-    sub-table-ends
-    part-table-ends-start
-    part-table-ends-end
-    print-list-requires
-    print-assembled-requires
-    enum-known-e-2
-    refused-requires
-    same-length
-    returns
-    same-length-2
-    returns-2
-    same-length-3
-    returns-3)
+    (tie.spec string-space-requires end-space-requires slice-aggregate-inputs-at slice-aggregate-inputs-at-2 inputs-at-requires enum-known-e sub-texts part-texts-start part-texts-end sub-table-ends part-table-ends-start part-table-ends-end print-list-requires print-assembled-requires enum-known-e-2 refused-requires same-length returns same-length-2 returns-2 same-length-3 returns-3)

@@ -78,26 +78,4 @@ returns-4 c = past _ _ _ _ _ _ _ (c .before .loop .inv) (c .loop-test .left)
 pub hex-at-spec : {M : Type 1} → statement M
 hex-at-spec =
     tie.close
-    (tie.spec
-    Inv-loop
-    μ-loop
-    loop-holds
-    shared-slice-read-if1
-    add-t13
-    same-length
-    returns
-    digit-at-requires
-    same-length-2
-    returns-2
-    add-digit-at
-    digit-at-requires-2
-    same-length-3
-    returns-3
-    mul-put-byte
-    add-put-byte
-    put-byte-requires
-    add-at
-    loop-less
-    loop-again
-    same-length-4
-    returns-4)
+    (tie.spec Inv-loop μ-loop loop-holds shared-slice-read-if1 add-t13 same-length returns digit-at-requires same-length-2 returns-2 add-digit-at digit-at-requires-2 same-length-3 returns-3 mul-put-byte add-put-byte put-byte-requires add-at loop-less loop-again same-length-4 returns-4)

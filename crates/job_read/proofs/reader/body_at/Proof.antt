@@ -29,30 +29,19 @@ same-length-2 c = search needs
 
 returns-2 : tie.Need-returns-2
 unfolding text
-returns-2 c = ends-text _ _ _ _ _ _ (c .before .before .before .before .before .before .keyed-hex-at .ensures) _ _ (c .before .before .l .given .1) (omega arith) (c .if1 .taken)
+returns-2 c = ends-text _ _ _ _ _ _ (c .before .before .before .before .before .before .before .keyed-hex-at .ensures) (c .before .before .before .l .given .1) (omega arith) (c .if1 .taken)
 
-add-t13 : tie.Need-add-t13
-add-t13 c = search needs
+add-t12 : tie.Need-add-t12
+add-t12 c = search needs
 
 same-length-3 : tie.Need-same-length-3
 same-length-3 c = search needs
 
 returns-3 : tie.Need-returns-3
 unfolding text
-returns-3 c = goes-on _ _ _ _ _ _ (c .before .before .before .before .before .before .keyed-hex-at .ensures) _ _ (c .before .before .l .given .1) (c .if1 .left)
+returns-3 c = goes-on _ _ _ _ _ _ (c .before .before .before .before .before .before .before .keyed-hex-at .ensures) (c .before .before .before .l .given .1) (c .if1 .left)
 
 pub body-at-spec : {M : Type 1} → statement M
 body-at-spec =
     tie.close
-    (tie.spec
-    slice-aggregate-keyed-hex-at
-    keyed-hex-at-requires
-    enum-known-l
-    enum-told
-    same-length
-    returns
-    same-length-2
-    returns-2
-    add-t13
-    same-length-3
-    returns-3)
+    (tie.spec slice-aggregate-keyed-hex-at keyed-hex-at-requires enum-known-l enum-told same-length returns same-length-2 returns-2 add-t12 same-length-3 returns-3)

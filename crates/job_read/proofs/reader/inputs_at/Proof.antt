@@ -18,8 +18,8 @@ add-strings-line c = search needs
 
 add-strings-line-2 : tie.Need-add-strings-line-2
 add-strings-line-2 c =
-    let a = c .before .before .before .before .before .before .before .before .before .args in
-    omega (arith, sheet.few-lines (a .s .now) (a .at) _ _ _ _ (sym (c .before .before .before .sheet-at .ensures .0) ∙ c .before .r .given .1))
+    let a = c .before .before .before .before .before .before .before .before .before .before .args in
+    omega (arith, sheet.few-lines (a .s .now) (a .at) (sym (c .before .before .before .before .sheet-at .ensures .0) ∙ c .before .before .r .given .1))
 
 table-at-requires : tie.Need-table-at-requires
 table-at-requires c κs = search needs
@@ -27,38 +27,38 @@ table-at-requires c κs = search needs
 enum-known-t : tie.Need-enum-known-t
 enum-known-t c = search needs
 
-add-t28 : tie.Need-add-t28
-add-t28 c =
-    let a = c .before .before .before .before .before .before .before .before .before .before .before .before .before .before .before .before .before .before .before .args in
-    omega (arith, sheet.few-lines (a .s .now) (a .at) _ _ _ _ (sym (c .before .before .before .before .before .before .before .before .before .before .before .before .before .sheet-at .ensures .0) ∙ c .before .before .before .before .before .before .before .before .before .before .before .r .given .1))
+add-t24 : tie.Need-add-t24
+add-t24 c =
+    let a = c .before .before .before .before .before .before .before .before .before .before .before .before .before .before .before .before .before .before .before .before .args in
+    omega (arith, sheet.few-lines (a .s .now) (a .at) (sym (c .before .before .before .before .before .before .before .before .before .before .before .before .before .before .sheet-at .ensures .0) ∙ c .before .before .before .before .before .before .before .before .before .before .before .before .r .given .1))
 
-add-t29 : tie.Need-add-t29
-add-t29 c =
-    let a = c .before .before .before .before .before .before .before .before .before .before .before .before .before .before .before .before .before .before .before .args in
-    let n = sheet.few-lines (a .s .now) (a .at) _ _ _ _ (sym (c .before .before .before .before .before .before .before .before .before .before .before .before .before .sheet-at .ensures .0) ∙ c .before .before .before .before .before .before .before .before .before .before .before .r .given .1) in
-    omega (arith, n, table.few-strings (a .s .now) _ (c .before .before .before .before .before .before .before .table-at .ensures) _ _ _ (c .before .t .given .1))
+add-t25 : tie.Need-add-t25
+add-t25 c =
+    let a = c .before .before .before .before .before .before .before .before .before .before .before .before .before .before .before .before .before .before .before .before .before .args in
+    let n = sheet.few-lines (a .s .now) (a .at) (sym (c .before .before .before .before .before .before .before .before .before .before .before .before .before .before .before .sheet-at .ensures .0) ∙ c .before .before .before .before .before .before .before .before .before .before .before .before .before .r .given .1) in
+    omega (arith, n, c .before .before .before .before .before .before .before .before .before .before .before .before .before .before .before .before .before .before .before .before .before .pre .1, table.few-strings (a .s .now) _ (c .before .before .before .before .before .before .before .before .table-at .ensures) (c .before .before .t .given .1))
 
 enum-known-t-2 : tie.Need-enum-known-t-2
 enum-known-t-2 c = search needs
 
-add-t30 : tie.Need-add-t30
-add-t30 c =
-    let a = c .before .before .before .before .before .before .before .before .before .before .before .before .before .before .before .before .before .before .before .args in
-    let n = sheet.few-lines (a .s .now) (a .at) _ _ _ _ (sym (c .before .before .before .before .before .before .before .before .before .before .before .before .before .sheet-at .ensures .0) ∙ c .before .before .before .before .before .before .before .before .before .before .before .r .given .1) in
-    omega (arith, n, table.few-lines (a .s .now) _ (c .before .before .before .before .before .before .before .table-at .ensures) _ (c .before .t2 .given .1))
+add-t27 : tie.Need-add-t27
+add-t27 c =
+    let a = c .before .before .before .before .before .before .before .before .before .before .before .before .before .before .before .before .before .before .before .before .args in
+    let n = sheet.few-lines (a .s .now) (a .at) (sym (c .before .before .before .before .before .before .before .before .before .before .before .before .before .before .sheet-at .ensures .0) ∙ c .before .before .before .before .before .before .before .before .before .before .before .before .r .given .1) in
+    omega (arith, n, table.few-lines (a .s .now) _ (c .before .before .before .before .before .before .before .table-at .ensures) (c .before .t2 .given .1))
 
 enum-known-r-2 : tie.Need-enum-known-r-2
 enum-known-r-2 c = search needs
 
-add-t31 : tie.Need-add-t31
-add-t31 c =
+add-t28 : tie.Need-add-t28
+add-t28 c =
     let a = c .before .before .before .before .before .before .before .before .before .args in
-    omega (arith, line-inside (a .s .now) (a .at) _ (sym (c .before .before .before .sheet-at .ensures .0) ∙ c .before .r2 .given .1) .1)
+    omega (arith, line-inside (a .s .now) (a .at) (sym (c .before .before .before .sheet-at .ensures .0) ∙ c .before .r2 .given .1) .1)
 
-sub-t32 : tie.Need-sub-t32
-sub-t32 c =
+sub-t29 : tie.Need-sub-t29
+sub-t29 c =
     let a = c .before .before .before .before .before .before .before .before .before .args in
-    omega (arith, line-inside (a .s .now) (a .at) _ (sym (c .before .before .before .sheet-at .ensures .0) ∙ c .before .r2 .given .1) .0)
+    omega (arith, line-inside (a .s .now) (a .at) (sym (c .before .before .before .sheet-at .ensures .0) ∙ c .before .r2 .given .1) .0)
 
 same-length : tie.Need-same-length
 same-length c = search needs
@@ -68,9 +68,9 @@ same-length-2 c = search needs
 
 returns : tie.Need-returns
 returns c =
-    let a = c .before .before .before .before .before .before .before .before .before .before .before .before .before .before .before .before .before .before .before .args in
-    let w = c .before .before .before .before .before .before .before .before .before .before .before .before .before .sheet-at .ensures in
-    read-whole (a .s .now) (a .at) (a .line) _ _ _ _ _ _ _ _ (sym (w .0) ∙ c .before .before .before .before .before .before .before .before .before .before .before .r .given .1) _ (c .before .before .before .before .before .before .before .table-at .ensures) _ _ _ (c .before .t .given .1) (w .1 .0) (w .1 .1)
+    let a = c .before .before .before .before .before .before .before .before .before .before .before .before .before .before .before .before .before .before .before .before .before .args in
+    let w = c .before .before .before .before .before .before .before .before .before .before .before .before .before .before .before .sheet-at .ensures in
+    read-whole (a .s .now) (a .at) (a .line) _ _ _ _ (sym (w .0) ∙ c .before .before .before .before .before .before .before .before .before .before .before .before .before .r .given .1) _ (c .before .before .before .before .before .before .before .before .table-at .ensures) (c .before .before .t .given .1) (w .1 .0) (w .1 .1)
 
 same-length-3 : tie.Need-same-length-3
 same-length-3 c = search needs
@@ -80,35 +80,15 @@ same-length-4 c = search needs
 
 returns-2 : tie.Need-returns-2
 returns-2 c =
-    let a = c .before .before .before .before .before .before .before .before .before .before .before .before .before .before .before .before .before .before .before .args in
-    strings-off (a .s .now) (a .at) (a .line) _ _ _ _ _ _ _ _ (sym (c .before .before .before .before .before .before .before .before .before .before .before .before .before .sheet-at .ensures .0) ∙ c .before .before .before .before .before .before .before .before .before .before .before .r .given .1) _ (c .before .before .before .before .before .before .before .table-at .ensures) _ (c .before .t2 .given .1)
+    let a = c .before .before .before .before .before .before .before .before .before .before .before .before .before .before .before .before .before .before .before .before .args in
+    strings-off (a .s .now) (a .at) (a .line) _ _ _ _ (sym (c .before .before .before .before .before .before .before .before .before .before .before .before .before .before .sheet-at .ensures .0) ∙ c .before .before .before .before .before .before .before .before .before .before .before .before .r .given .1) _ (c .before .before .before .before .before .before .before .table-at .ensures) (c .before .t2 .given .1)
 
 returns-3 : tie.Need-returns-3
 returns-3 c =
     let a = c .before .before .before .before .before .before .before .before .before .args in
-    sheet-off (a .s .now) (a .at) (a .line) _ _ _ _ _ (sym (c .before .before .before .sheet-at .ensures .0) ∙ c .before .r2 .given .1)
+    sheet-off (a .s .now) (a .at) (a .line) _ _ _ _ (sym (c .before .before .before .sheet-at .ensures .0) ∙ c .before .r2 .given .1)
 
 pub inputs-at-spec : {M : Type 1} → statement M
 inputs-at-spec =
     tie.close
-    (tie.spec
-    sheet-at-requires
-    enum-known-r
-    add-strings-line
-    add-strings-line-2
-    table-at-requires
-    enum-known-t
-    add-t28
-    add-t29
-    enum-known-t-2
-    add-t30
-    enum-known-r-2
-    add-t31
-    sub-t32
-    same-length
-    same-length-2
-    returns
-    same-length-3
-    same-length-4
-    returns-2
-    returns-3)
+    (tie.spec sheet-at-requires enum-known-r add-strings-line add-strings-line-2 table-at-requires enum-known-t add-t24 add-t25 enum-known-t-2 add-t27 enum-known-r-2 add-t28 sub-t29 same-length same-length-2 returns same-length-3 same-length-4 returns-2 returns-3)

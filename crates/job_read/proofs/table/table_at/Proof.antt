@@ -51,14 +51,4 @@ returns-2 c =
 pub table-at-spec : {M : Type 1} → statement M
 table-at-spec =
     tie.close
-    (tie.spec
-    slice-aggregate-keyed-at
-    slice-aggregate-keyed-at-2
-    keyed-at-requires
-    enum-known-n
-    enum-told
-    returns
-    strings-from-requires
-    same-length
-    same-length-2
-    returns-2)
+    (tie.spec slice-aggregate-keyed-at slice-aggregate-keyed-at-2 keyed-at-requires enum-known-n enum-told returns strings-from-requires same-length same-length-2 returns-2)

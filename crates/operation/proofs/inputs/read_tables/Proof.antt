@@ -1,6 +1,4 @@
 use Rattle.operation.proofs.UnderLaws.{was-read, was-malformed}
-use Rattle.sheet.proofs.UnderSheet.{read-as, malformed-as, some-opcode}
-use native.Mathlib.Omega.{arith}
 use mathlib.Core.Path.{sym, _∙_}
 use borrow.Author.Needs.{needs}
 use Rattle.operation.proofs.inputs.read_tables.Statement.{statement}
@@ -12,18 +10,15 @@ read-sheet-requires c κs = search needs
 enum-known-s : tie.Need-enum-known-s
 enum-known-s c = search needs
 
-sub-t10 : tie.Need-sub-t10
-sub-t10 c = omega (arith, some-opcode (c .before .before .before .before .before .before .before .args .sheet .now) _ (read-as _ _ _ _ _ (sym (c .before .before .before .read-sheet .ensures .0) ∙ c .before .s .given .1)))
-
 enum-known-s-2 : tie.Need-enum-known-s-2
 enum-known-s-2 c = search needs
 
 returns : tie.Need-returns
-returns c = let s = c .before .before .before .read-sheet .ensures in was-read (c .before .before .before .before .before .before .before .args .sheet .now) _ (read-as _ _ _ _ _ (sym (s .0) ∙ c .before .s .given .1)) _ _ (s .1 .0) (s .1 .1)
+returns c = let s = c .before .before .before .read-sheet .ensures in was-read (c .before .before .before .before .before .before .before .args .sheet .now) (sym (s .0) ∙ c .before .s .given .1) _ _ (s .1 .0) (s .1 .1)
 
 returns-2 : tie.Need-returns-2
-returns-2 c = let s = c .before .before .before .read-sheet .ensures in was-malformed (c .before .before .before .before .before .before .before .args .sheet .now) _ _ _ (malformed-as _ _ (sym (s .0) ∙ c .before .s2 .given .1))
+returns-2 c = let s = c .before .before .before .read-sheet .ensures in was-malformed (c .before .before .before .before .before .before .before .args .sheet .now) _ _ (sym (s .0) ∙ c .before .s2 .given .1)
 
 pub read-tables-spec : {M : Type 1} → statement M
 read-tables-spec =
-    tie.close (tie.spec read-sheet-requires enum-known-s sub-t10 enum-known-s-2 returns returns-2)
+    tie.close (tie.spec read-sheet-requires enum-known-s enum-known-s-2 returns returns-2)

@@ -16,17 +16,17 @@ enum-known-r c = search needs
 returns : tie.Need-returns
 unfolding sheetOf
 returns c =
-    let w = c .before .before .before .before .sheet-at .ensures in
-    let g = c .before .before .r .given .1 in
-    rw (ends-here (length (c .before .before .before .before .before .before .before .before .args .s .now)) _ _ _ _ _ (sym (w .0) ∙ g) (c .if1 .taken)) (sym g ∙ w .0, w .1)
+    let w = c .before .before .before .before .before .sheet-at .ensures in
+    let g = c .before .before .before .r .given .1 in
+    rw (ends-here (length (c .before .before .before .before .before .before .before .before .before .args .s .now)) _ (sym (w .0) ∙ g) (c .if1 .taken)) (sym g ∙ w .0, w .1)
 
 reset-requires : tie.Need-reset-requires
 reset-requires c κs = search needs
 
-add-t10 : tie.Need-add-t10
-add-t10 c =
-    let w = c .before .before .before .before .before .before .before .sheet-at .ensures in
-    omega (arith, few-lines (c .before .before .before .before .before .before .before .before .before .before .before .args .s .now) 0 _ _ _ _ (sym (w .0) ∙ c .before .before .before .before .before .r .given .1))
+add-t9 : tie.Need-add-t9
+add-t9 c =
+    let w = c .before .before .before .before .before .before .before .before .before .sheet-at .ensures in
+    omega (arith, few-lines (c .before .before .before .before .before .before .before .before .before .before .before .before .before .args .s .now) 0 (sym (w .0) ∙ c .before .before .before .before .before .before .before .r .given .1))
 
 enum-told : tie.Need-enum-told
 enum-told c = search needs
@@ -34,9 +34,9 @@ enum-told c = search needs
 returns-2 : tie.Need-returns-2
 unfolding sheetOf
 returns-2 c =
-    let w = c .before .before .before .before .before .before .before .sheet-at .ensures in
-    let t = c .reset .ensures in
-    let e = goes-on (length (c .before .before .before .before .before .before .before .before .before .before .before .args .s .now)) _ _ _ _ _ (sym (w .0) ∙ c .before .before .before .before .before .r .given .1) (c .before .before .before .if1 .left) in
+    let w = c .before .before .before .before .before .before .before .before .before .sheet-at .ensures in
+    let t = c .before .reset .ensures in
+    let e = goes-on (length (c .before .before .before .before .before .before .before .before .before .before .before .before .before .args .s .now)) _ (sym (w .0) ∙ c .before .before .before .before .before .before .before .r .given .1) (c .before .before .before .before .if1 .left) in
     let a = refused _ _ _ _ e (t .0) (t .1) in
     (a .answer, (a .type-rows, a .info-rows))
 
@@ -44,17 +44,9 @@ returns-3 : tie.Need-returns-3
 unfolding sheetOf
 returns-3 c =
     let w = c .before .before .sheet-at .ensures in
-    rw (stays (length (c .before .before .before .before .before .before .args .s .now)) _ _ (sym (w .0) ∙ c .enum-told .given .1)) w
+    rw (stays (length (c .before .before .before .before .before .before .args .s .now)) _ (sym (w .0) ∙ c .enum-told .given .1)) w
 
 pub read-sheet-spec : {M : Type 1} → statement M
 read-sheet-spec =
     tie.close
-    (tie.spec
-    sheet-at-requires
-    enum-known-r
-    returns
-    reset-requires
-    add-t10
-    enum-told
-    returns-2
-    returns-3)
+    (tie.spec sheet-at-requires enum-known-r returns reset-requires add-t9 enum-told returns-2 returns-3)

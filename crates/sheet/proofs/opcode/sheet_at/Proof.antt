@@ -1,7 +1,7 @@
 use Rattle.sheet.specs.Sheets.{sheetAnswer, typesIn, infosIn}
 use Rattle.sheet.specs.declared.opcode.Sheet.{Sheet}
 use Rattle.spec_sheet.specs.Sheet.{SheetRead}
-use Rattle.sheet.proofs.SheetAnswers.{Answers, refused, whole, fault-inside, fault-line}
+use Rattle.sheet.proofs.SheetAnswers.{Answers, refused, whole, some-opcode, fault-inside, fault-line}
 use Rattle.sheet.proofs.AnswerLaws.{was-next, was-off}
 use Rattle.spec_sheet.proofs.SheetLaws.{no-version, no-count, count-zero, with-ops}
 use Rattle.spec_sheet.proofs.ScanLaws.{keyed-bound}
@@ -89,9 +89,9 @@ enum-known-o-2 c = search needs
 reset-requires-2 : tie.Need-reset-requires-2
 reset-requires-2 c κs = search needs
 
-add-t38 : tie.Need-add-t38
+add-t40 : tie.Need-add-t40
 unfolding text
-add-t38 c =
+add-t40 c =
     let a = c .before .before .before .before .before .before .before .before .before .before .before .before .before .before .before .before .before .before .before .before .before .before .before .before .before .before .args in
     let n = was-next _ (sym (c .before .before .before .before .before .before .before .before .before .before .before .before .before .keyed-at2 .ensures) ∙ c .before .before .before .before .before .before .before .before .before .before .before .n .given .1) in
     let m = keyed-bound (text "count=") 256 lineEnd (a .s .now) _ _ _ n in
@@ -117,28 +117,16 @@ returns-5 c =
     let e = with-ops (a .s .now) (a .at) _ _ _ _ v n (c .before .before .before .before .before .before .before .before .before .if1 .left) in
     three _ _ _ _ (refused _ _ _ _ (e ∙ fault-line _ _ _ (sym (c .before .before .before .before .before .before .read-ops .ensures .0) ∙ c .before .before .before .before .o2 .given .1)) (t .0) (t .1))
 
+sub-t35 : tie.Need-sub-t35
+unfolding text
+sub-t35 c =
+    let a = c .before .before .before .before .before .before .before .before .before .before .before .before .before .before .before .before .before .before .before .before .before .before .before .args in
+    let v = was-next _ (sym (c .before .before .before .before .before .before .before .before .before .before .before .before .before .before .before .before .keyed-at .ensures) ∙ c .before .before .before .before .before .before .before .before .before .before .before .before .before .before .v .given .1) in
+    let n = was-next _ (sym (c .before .before .before .before .before .before .before .before .before .before .keyed-at2 .ensures) ∙ c .before .before .before .before .before .before .before .before .n .given .1) in
+    let e = with-ops (a .s .now) (a .at) _ _ _ _ v n (c .before .before .before .before .before .before .if1 .left) in
+    omega (arith, some-opcode (a .s .now) (a .at) _ _ _ _ e (sym (c .before .before .before .read-ops .ensures .0) ∙ c .before .o .given .1))
+
 pub sheet-at-spec : {M : Type 1} → statement M
 sheet-at-spec =
     tie.close
-    (tie.spec
-    reset-requires
-    slice-aggregate-keyed-at
-    slice-aggregate-keyed-at-2
-    keyed-at-requires
-    enum-known-v
-    enum-told
-    returns
-    slice-aggregate-keyed-at-3
-    slice-aggregate-keyed-at-4
-    keyed-at-requires-2
-    enum-known-n
-    enum-told-2
-    returns-2
-    returns-3
-    read-ops-requires
-    enum-known-o
-    enum-known-o-2
-    reset-requires-2
-    add-t38
-    returns-4
-    returns-5)
+    (tie.spec reset-requires slice-aggregate-keyed-at slice-aggregate-keyed-at-2 keyed-at-requires enum-known-v enum-told returns slice-aggregate-keyed-at-3 slice-aggregate-keyed-at-4 keyed-at-requires-2 enum-known-n enum-told-2 returns-2 returns-3 read-ops-requires enum-known-o sub-t35 enum-known-o-2 reset-requires-2 add-t40 returns-4 returns-5)

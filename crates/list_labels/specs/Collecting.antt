@@ -45,7 +45,7 @@ collectedOf e (decoded rs) = collected.Entries (different (labelOffsets e rs))
 collectedOf e (beyond at) = collected.Beyond at
 collectedOf e (cut at) = collected.Cut at
 
--- 1 flags each offset that is a label, as far as the flags reach
+-- a flag is 1 exactly where its offset is a label
 abbrev pub Flagged : List ℕ → List ℕ → Type 0
 Flagged labels flags = (i : ℕ) → i < length flags → getD flags i 0 ≡ pick (among i labels) 1 0
 

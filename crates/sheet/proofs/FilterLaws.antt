@@ -1,4 +1,4 @@
--- Laws of filter of names. Assumes nothing.
+-- Laws of the filter of names. Assumes nothing.
 use mathlib.Core.Path.{_≡_, refl, ap, sym, _∙_}
 use mathlib.Core.Bool.{true, false}
 use mathlib.Core.List.{List, [], _∷_}

@@ -16,7 +16,7 @@ hashFrom h (b ∷ s) = hashFrom ((h * 37 + b) % 4096) s
 abbrev pub nameHash : List ℕ → ℕ
 nameHash name = hashFrom 0 name
 
--- 4096 filter are the bits of 64 numbers
+-- its 4096 bits are those of 64 numbers
 unfoldable pub inFilter : List ℕ → ℕ → Bool
 inFilter filter h = eqb (getD filter (h / 64) 0 / 2 ^ (h % 64) % 2) 1
 

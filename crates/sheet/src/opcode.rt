@@ -1,6 +1,6 @@
 // An opcode sheet read into tables by opcode. The type codes are an array of 256 rows of eight; beside them each opcode
 // has a row with its operand count, its jump mark, and the start and length of its name in the sheet's text. A length of
-// 0 filter a gap, "<invalid>" in the Rust.
+// 0 marks a gap, "<invalid>" in the Rust.
 ghost use mathlib.Core.Path.{_≡_};
 ghost use Prim.Native.Nat.{ℕ};
 ghost use mathlib.Core.List.{List, []};

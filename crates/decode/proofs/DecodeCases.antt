@@ -1,16 +1,21 @@
 -- The operations of decoding, case by case. Assumes nothing.
-use mathlib.Core.Path.{_≡_}
+use mathlib.Core.Path.{_≡_, refl, sym}
 use mathlib.Core.List.{List}
 use Prim.Native.Nat.{ℕ, _≤_, _<_}
 use lib.ListN.{length}
-use mathlib.Core.Bool.{true, false}
 use borrow.Author.Tests.{lt-ltb, le-ltb}
+use Rattle.lists.specs.Choice.{pick}
+use Rattle.lists.specs.Scan.{part}
 use Rattle.spec_sheet.specs.Sheet.{sheetOf}
 use Rattle.spec_body.specs.Decode.{decodeBody}
-use Rattle.spec_body.specs.Function.{inArea, functionSize, functionBody}
+use Rattle.spec_body.specs.Function.{functionBody}
 use Rattle.spec_body.specs.Operation.{decodeOutcome, functionOutcome, decode}
 use Rattle.spec_inputs.specs.Inputs.{underSheet}
 use Rattle.spec_answers.specs.Outcome.Outcome.{refusedWith}
+use Rattle.operation.specs.Places.{locatedOf}
+use Rattle.operation.specs.declared.area.Located.{Located}
+use Rattle.operation.specs.declared.area.Located.the-variants.{Inside, TooLarge, Outside}
+use Rattle.operation.proofs.AreaLaws.{by-place}
 
 module _ (text body : List ℕ) where
   pub decode-large : 65536 < length body → decode text body ≡ refusedWith 18 0 0
@@ -21,15 +26,15 @@ module _ (text body : List ℕ) where
   unfolding decode
   decode-small h = rw (le-ltb 65536 (length body) h)
 
-module _ (functions area : List ℕ) (base id : ℕ) (types : List (List ℕ)) (last : ℕ) where
-  pub function-none : inArea functions area base id ≡ false → functionOutcome types last functions area base id ≡ refusedWith 20 id 0
-  unfolding functionOutcome
-  function-none e = rw e
+-- a function's outcome, by where it lies
+unfoldable pub outcomeAt : List (List ℕ) → ℕ → List ℕ → ℕ → Located → Outcome
+outcomeAt types last area id (Inside f) = decodeOutcome (decodeBody types last (part area (f .start) (f .size)))
+outcomeAt types last area id TooLarge = refusedWith 18 0 0
+outcomeAt types last area id Outside = refusedWith 20 id 0
 
-  pub function-large : inArea functions area base id ≡ true → 65536 < functionSize functions id → functionOutcome types last functions area base id ≡ refusedWith 18 0 0
-  unfolding functionOutcome
-  function-large e h = rw (e, lt-ltb 65536 (functionSize functions id) h)
-
-  pub function-body : inArea functions area base id ≡ true → functionSize functions id ≤ 65536 → functionOutcome types last functions area base id ≡ decodeOutcome (decodeBody types last (functionBody functions area base id))
-  unfolding functionOutcome
-  function-body e h = rw (e, le-ltb 65536 (functionSize functions id) h)
+pub function-as : (types : List (List ℕ)) (last : ℕ) (functions area : List ℕ) (base id : ℕ) {place found : Located} → place ≡ locatedOf functions area base id → place ≡ found
+    → functionOutcome types last functions area base id ≡ outcomeAt types last area id found
+unfolding functionOutcome outcomeAt
+function-as types last functions area base id w e =
+    let body = decodeOutcome (decodeBody types last (functionBody functions area base id)) in
+    by-place functions area base id (outcomeAt types last area id) (λ b c. pick b (pick c (refusedWith 18 0 0) body) (refusedWith 20 id 0)) w e refl refl (λ c. refl)

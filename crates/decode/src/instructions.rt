@@ -9,8 +9,8 @@ ghost use Rattle.decode.specs.Answers.{decodeReport};
 use crate::answer::DecodeAnswer;
 use crate::body::Body;
 use crate::body::decode_body;
-use operation::area::in_area;
-use operation::area::wide;
+use operation::area::Located;
+use operation::area::locate;
 use sheet::opcode::Sheet;
 
 // Decodes a body under a sheet's table of type codes.
@@ -97,16 +97,19 @@ fn function_under(
     ensures { λ r. ⌜ decodeReport r ≡ report (operation.functionOutcome (now (types .entry)) last (now (functions .entry)) (now (area .entry)) base id) (length (now (out .entry))) ⌝ }
     ensures { λ _. ⌜ now (out .exit) ≡ exitOf (operation.functionOutcome (now (types .entry)) last (now (functions .entry)) (now (area .entry)) base id) (now (out .entry)) ⌝ }
 {
-    if in_area(functions, area, base, id) {
-        let start = wide(functions[3 * id]) - wide(base);
-        let size = wide(functions[3 * id + 1]);
-        if limits::BODY_LIMIT < size {
-            slices::clearing::clear_words(out);
-            return DecodeAnswer::TooLarge;
+    let place = locate(functions, area, base, id);
+    match place {
+        Located::Inside(f) => {
+            let body = slices::part::part_of(area, f.start, f.size);
+            decode_under(types, last, body, out)
         }
-        let body = slices::part::part_of(area, start, size);
-        return decode_under(types, last, body, out);
+        Located::TooLarge => {
+            slices::clearing::clear_words(out);
+            DecodeAnswer::TooLarge
+        }
+        Located::Outside => {
+            slices::clearing::clear_words(out);
+            DecodeAnswer::NoFunction(id)
+        }
     }
-    slices::clearing::clear_words(out);
-    DecodeAnswer::NoFunction(id)
 }

@@ -1,11 +1,11 @@
 -- One function in a module's listing. Assumes nothing.
 use mathlib.Core.Path.{_≡_, refl, _∙_}
-use mathlib.Core.Bool.{true, false}
 use mathlib.Core.List.{List, [], _∷_, _++_}
 use Prim.Native.Nat.{ℕ, _+_, _-_, _<_, _≤_, min, max}
 use native.Mathlib.Omega.{arith}
 use lib.ListN.{length}
 use borrow.Author.Tests.{lt-ltb, le-ltb}
+use Rattle.lists.specs.Choice.{pick}
 use Rattle.lists.specs.Text.{text}
 use Rattle.lists.specs.Write.{Put, top}
 use Rattle.lists.proofs.Writes.{_then_, kept-length}
@@ -14,8 +14,11 @@ use Rattle.spec_inputs.specs.Context.{Context}
 use Rattle.spec_listing.specs.Options.{Options}
 use Rattle.spec_listing.specs.Listing.{Listed, listDecoded, append}
 use Rattle.spec_listing.specs.Listing.Listed.{listed, refused}
-use Rattle.spec_body.specs.Function.{inArea, functionBody, functionSize, functionNameId}
+use Rattle.spec_body.specs.Function.{functionBody, functionNameId}
 use Rattle.spec_listing.specs.Module.{banner, functionName, listFunctionIn}
+use Rattle.operation.specs.Places.{locatedOf}
+use Rattle.operation.specs.declared.area.Located.{Located}
+use Rattle.operation.proofs.AreaLaws.{by-place}
 use Rattle.listing.specs.Functions.{areaOf}
 use Rattle.listing.specs.Bodies.{refusalOf, Written}
 use Rattle.listing.specs.Bodies.Written.{whole, stopped}
@@ -23,7 +26,7 @@ use Rattle.listing.specs.declared.body.Part.{Part}
 use Rattle.listing.specs.declared.body.Part.the-variants as body
 use Rattle.listing.proofs.WrittenLaws.{was-listed, was-refused, same-size}
 use Rattle.list_module.specs.Titles.{nameById}
-use Rattle.list_module.specs.Modules.{partRefusal, PartWritten, titled}
+use Rattle.list_module.specs.Modules.{partRefusal, PartWritten, titled, listLocated}
 use Rattle.list_module.specs.Modules.PartWritten.{complete, broken}
 use Rattle.list_module.specs.declared.function_part.FunctionPart.{FunctionPart}
 use Rattle.list_module.specs.declared.function_part.FunctionPart.the-variants as part
@@ -81,22 +84,11 @@ module _ (o : Options) (e : Context) (last id name : ℕ) (s : List ℕ) {before
       let g = banner-fits «from» (length (titleOf e id name)) a low (w .next) h in
       rw (le-ltb 4096 (length (titleOf e id name)) (g .0)) (f _ before «from» (under-title (titleOf e id name ++ (10 ∷ [])) (w then l) d))
 
--- a function of an area: 20, 18, then its body under its banner
-in-is : (o : Options) (e : Context) (last : ℕ) (functions area : List ℕ) (base id : ℕ) → inArea functions area base id ≡ true → functionSize functions id ≤ 65536
-    → listFunctionIn o e last (areaOf functions area base) id ≡ titled o e last id (functionNameId functions id) (functionBody functions area base id)
-unfolding listFunctionIn titled
-in-is o e last functions area base id h k = rw (h, le-ltb 65536 (functionSize functions id) k)
-
-module _ (o : Options) (e : Context) (last : ℕ) (functions area : List ℕ) (base id : ℕ) {before after : List ℕ} {«from» : ℕ} where
-  pub in-none : inArea functions area base id ≡ false → length after ≡ length before → PartWritten (listFunctionIn o e last (areaOf functions area base) id) before «from» after (part.NoFunction id)
-  unfolding listFunctionIn partRefusal
-  in-none h l = broken 20 id (rw h) refl l
-
-  pub in-large : inArea functions area base id ≡ true → 65536 < functionSize functions id → length after ≡ length before
-      → PartWritten (listFunctionIn o e last (areaOf functions area base) id) before «from» after part.TooLarge
-  unfolding listFunctionIn partRefusal
-  in-large h k l = broken 18 0 (rw (h, lt-ltb 65536 (functionSize functions id) k)) refl l
-
-  pub in-titled : {name : ℕ} {s : List ℕ} {r : FunctionPart} → inArea functions area base id ≡ true → functionSize functions id ≤ 65536 → name ≡ functionNameId functions id → s ≡ functionBody functions area base id
-      → PartWritten (titled o e last id name s) before «from» after r → PartWritten (listFunctionIn o e last (areaOf functions area base) id) before «from» after r
-  in-titled h k n b w = rw (in-is o e last functions area base id h k) (rw (n, b) at w)
+-- a function of an area is listed by where it lies
+pub in-place : (o : Options) (e : Context) (last : ℕ) (functions area : List ℕ) (base id : ℕ) {place : Located} {before after : List ℕ} {«from» : ℕ} {r : FunctionPart} → place ≡ locatedOf functions area base id
+    → PartWritten (listLocated o e last area id place) before «from» after r → PartWritten (listFunctionIn o e last (areaOf functions area base) id) before «from» after r
+unfolding listFunctionIn listLocated titled
+in-place o e last functions area base id q w =
+    let body = titled o e last id (functionNameId functions id) (functionBody functions area base id) in
+    let same = by-place functions area base id (listLocated o e last area id) (λ b c. pick b (pick c (refused 18 0 0) body) (refused 20 id 0)) q refl refl refl (λ c. refl) in
+    rw same w

@@ -5,6 +5,7 @@ use Prim.Native.Nat.{ℕ, _<_, _≤_}
 use lib.Dec.{ltb}
 use lib.ListN.{length}
 use Rattle.lists.specs.Choice.{pick}
+use Rattle.lists.specs.Scan as scan
 use Rattle.lists.specs.Text.{text}
 use Rattle.lists.specs.Write.{Put}
 use Rattle.spec_body.specs.Decode.{decodeBody}
@@ -15,6 +16,8 @@ use Rattle.spec_listing.specs.Listing.Listed.{listed, refused}
 use Rattle.spec_listing.specs.Module.{banner, functionName}
 use Rattle.list_module.specs.declared.function_part.FunctionPart.{FunctionPart}
 use Rattle.list_module.specs.declared.function_part.FunctionPart.the-variants as part
+use Rattle.operation.specs.declared.area.Located.{Located}
+use Rattle.operation.specs.declared.area.Located.the-variants.{Inside, TooLarge, Outside}
 
 -- document 01's number and place of a function that is refused
 unfoldable pub partRefusal : FunctionPart → Listed
@@ -37,6 +40,12 @@ titled o e last id name s =
     let title = banner id (functionName e name) in
     let body = listDecoded o e (text "  ") (decodeBody (e .types) last s) in
     pick (ltb 4096 (length title)) (refused 3 id 0) (append (append (listed (title ++ text "\n") 0) body) (listed (text "\n") 0))
+
+-- a function by where it lies: "20, 18 of its body", then under its banner
+unfoldable pub listLocated : Options → Context → ℕ → List ℕ → ℕ → Located → Listed
+listLocated o e last area id (Inside f) = titled o e last id (f .name) (scan.part area (f .start) (f .size))
+listLocated o e last area id TooLarge = refused 18 0 0
+listLocated o e last area id Outside = refused 20 id 0
 
 -- a module's listing x was written at the front: the buffer was `out` and is `out′`; "18 and 19 of the whole listing come
 -- last", so one over 1,048,576 is counted no further, and a function behind it may still be refused

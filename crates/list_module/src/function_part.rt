@@ -9,12 +9,11 @@ ghost use Rattle.spec_listing.specs.Listing.Listed.{listed};
 ghost use Rattle.listing.specs.Parts.{optionsOf};
 ghost use Rattle.spec_inputs.specs.Context.{contextFrom};
 ghost use Rattle.listing.specs.Bodies.{Written};
-ghost use Rattle.spec_listing.specs.Module.{listFunctionIn};
-ghost use Rattle.listing.specs.Functions.{areaOf};
-ghost use Rattle.list_module.specs.Modules.{PartWritten, titled};
+ghost use Rattle.operation.specs.Places.{Within};
+ghost use Rattle.list_module.specs.Modules.{PartWritten, titled, listLocated};
 use listing::body::Part;
 use listing::options::Options;
-use operation::area::wide;
+use operation::area::Located;
 use slices::write::put_byte;
 
 // The next position and the label entries needed; or why the function is refused: 20, 18, 3 of its banner, 13, 14, 3.
@@ -82,8 +81,8 @@ fn list_titled(
     end_part(p, out)
 }
 
-// Lists one function of an area at position `from`.
-pub fn list_function_in(
+// Lists the function `id` of an area, by where it lies, at position `from`.
+pub fn list_located(
     options: Options,
     sheet: &[u8],
     types: &[[u8; 8]; 256],
@@ -91,38 +90,35 @@ pub fn list_function_in(
     last: usize,
     bytes: &[u8],
     ends: &[u32],
-    functions: &[u32],
     area: &[u8],
-    base: u32,
+    place: Located,
     id: usize,
     out: &mut [u8],
     from: usize,
 ) -> FunctionPart
+    requires { ⌜ Within (now area) place ⌝ }
     requires { ⌜ «from» ≤ listingLimit + 1 ⌝ }
-    ensures { λ r. ⌜ PartWritten (listFunctionIn (optionsOf options) (contextFrom (now (sheet .entry)) (now (types .entry)) (now (ops .entry)) (now (bytes .entry)) (now (ends .entry))) last (areaOf (now (functions .entry)) (now (area .entry)) base) id) (now (out .entry)) «from» (now (out .exit)) r ⌝ }
+    ensures { λ r. ⌜ PartWritten (listLocated (optionsOf options) (contextFrom (now (sheet .entry)) (now (types .entry)) (now (ops .entry)) (now (bytes .entry)) (now (ends .entry))) last (now (area .entry)) id place) (now (out .entry)) «from» (now (out .exit)) r ⌝ }
 {
-    if operation::area::in_area(functions, area, base, id) {
-        let start = wide(functions[3 * id]) - wide(base);
-        let size = wide(functions[3 * id + 1]);
-        if limits::BODY_LIMIT < size {
-            return FunctionPart::TooLarge;
+    match place {
+        Located::Inside(f) => {
+            let body = slices::part::part_of(area, f.start, f.size);
+            list_titled(
+                options,
+                sheet,
+                types,
+                ops,
+                last,
+                bytes,
+                ends,
+                body,
+                id,
+                f.name,
+                out,
+                from,
+            )
         }
-        let name = wide(functions[3 * id + 2]);
-        let body = slices::part::part_of(area, start, size);
-        return list_titled(
-            options,
-            sheet,
-            types,
-            ops,
-            last,
-            bytes,
-            ends,
-            body,
-            id,
-            name,
-            out,
-            from,
-        );
+        Located::TooLarge => FunctionPart::TooLarge,
+        Located::Outside => FunctionPart::NoFunction(id),
     }
-    FunctionPart::NoFunction(id)
 }

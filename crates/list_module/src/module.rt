@@ -57,7 +57,8 @@ fn list_functions(
     let mut at: usize = 0;
     let mut most: usize = 0;
     while id < functions.len() / 3 {
-        let p = crate::function_part::list_function_in(
+        let place = operation::area::locate(functions, area, base, id);
+        let p = crate::function_part::list_located(
             options,
             sheet,
             types,
@@ -65,9 +66,8 @@ fn list_functions(
             last,
             bytes,
             ends,
-            functions,
             area,
-            base,
+            place,
             id,
             out,
             at,

@@ -1,24 +1,47 @@
-// Functions of an area: whether one is inside of it.
+// Functions of an area: where one's body lies.
 ghost use mathlib.Core.Path.{_≡_};
 ghost use Prim.Native.Nat.{_≤_};
-ghost use Rattle.spec_body.specs.Function.{inArea};
+ghost use Rattle.operation.specs.Places.{locatedOf, Within};
 
-// Whether a function's triple and its body are inside the list and the area.
-pub fn in_area(functions: &[u32], area: &[u8], base: u32, id: usize) -> bool
-    ensures { λ r. ⌜ r ≡ inArea (now (functions .entry)) (now (area .entry)) base id ⌝ }
+// A function's body in its area, and the id of its name.
+pub struct Function {
+    pub start: usize,
+    pub size: usize,
+    pub name: usize,
+}
+
+// A function inside of its area; or 18 of its body, or 20.
+pub enum Located {
+    Inside(Function),
+    TooLarge,
+    Outside,
+}
+
+// Looks a function up: its triple has to be in the list and its body in the area, 20, and then its size is limited, 18.
+pub fn locate(functions: &[u32], area: &[u8], base: u32, id: usize) -> Located
+    ensures { λ r. ⌜ r ≡ locatedOf (now (functions .entry)) (now (area .entry)) base id ⌝ }
+    ensures { λ r. ⌜ Within (now (area .entry)) r ⌝ }
 {
     if functions.len() / 3 <= id {
-        return false;
+        return Located::Outside;
     }
     let offset = wide(functions[3 * id]);
     let size = wide(functions[3 * id + 1]);
     if offset < wide(base) {
-        return false;
+        return Located::Outside;
     }
-    offset - wide(base) + size <= area.len()
+    let start = offset - wide(base);
+    if area.len() < start + size {
+        return Located::Outside;
+    }
+    if limits::BODY_LIMIT < size {
+        return Located::TooLarge;
+    }
+    let name = wide(functions[3 * id + 2]);
+    Located::Inside(Function { start, size, name })
 }
 
-pub fn wide(x: u32) -> usize
+fn wide(x: u32) -> usize
     ensures { λ r. ⌜ (r ≡ x) × (r ≤ 4294967295) ⌝ }
 {
     x as usize

@@ -1,76 +1,17 @@
-use Rattle.operation.proofs.AreaLaws.{triple, inside-base}
-use Rattle.decode.proofs.DecodeCases.{function-none, function-large, function-body}
+use mathlib.Core.Path.{refl, sym}
+use Rattle.decode.proofs.DecodeCases.{outcomeAt, function-as}
 use Rattle.decode.proofs.BodyAnswers.{refused}
 use Rattle.decode.specs.declared.answer.DecodeAnswer.the-variants as answer
 use Rattle.decode.specs.Answers.{decodeReport}
-use Rattle.spec_body.specs.Function.{inArea}
-use lib.ListN.{length}
-use mathlib.Core.Bool.{true}
-use Prim.Native.Nat.{_+_, _*_, _<_}
-use native.Mathlib.Omega.{arith}
-use mathlib.Core.Path.{_≡_, refl, sym, _∙_}
 use borrow.Author.Needs.{needs}
 use Rattle.decode.proofs.instructions.function_under.Statement.{statement}
 use Rattle.decode.proofs.instructions.function_under.Tie as tie
 
--- the function is inside the list and the area
-inside : (c : tie.Then1) → inArea (c .before .before .before .before .before .args .functions .now) (c .before .before .before .before .before .args .area .now) (c .before .before .before .before .before .args .base) (c .before .before .before .before .before .args .id) ≡ true
-inside c = sym (c .before .in-area .ensures) ∙ c .if1 .taken
+locate-requires : tie.Need-locate-requires
+locate-requires c κs = search needs
 
-words : (c : tie.Then1) → 3 * (c .before .before .before .before .before .args .id) + 2 < length (c .before .before .before .before .before .args .functions .now)
-words c = triple (c .before .before .before .before .before .args .functions .now) (c .before .before .before .before .before .args .area .now) (c .before .before .before .before .before .args .base) (c .before .before .before .before .before .args .id) (inside c)
-
-in-area-requires : tie.Need-in-area-requires
-in-area-requires c κs = search needs
-
-mul-wide : tie.Need-mul-wide
-mul-wide c = omega (arith, words c)
-
-mul-wide-2 : tie.Need-mul-wide-2
-mul-wide-2 c = omega (arith, words c)
-
-shared-slice-read-wide : tie.Need-shared-slice-read-wide
-shared-slice-read-wide c = omega (arith, words (c .before))
-
-wide-requires : tie.Need-wide-requires
-wide-requires c κs = search needs
-
-wide-requires-2 : tie.Need-wide-requires-2
-wide-requires-2 c κs = search needs
-
-sub-start : tie.Need-sub-start
-sub-start c =
-    let a = c .before .before .before .before .before .before .before .before .args in
-    omega (arith, c .wide2 .ensures .0, c .before .wide .ensures .0, inside-base (a .functions .now) (a .area .now) (a .base) (a .id) (inside (c .before .before .before)))
-
-mul-wide-3 : tie.Need-mul-wide-3
-mul-wide-3 c = omega (arith, words (c .before .before .before))
-
-add-wide : tie.Need-add-wide
-add-wide c = omega (arith, words (c .before .before .before))
-
-mul-wide-4 : tie.Need-mul-wide-4
-mul-wide-4 c = omega (arith, words (c .before .before .before))
-
-shared-slice-read-wide-2 : tie.Need-shared-slice-read-wide-2
-shared-slice-read-wide-2 c = omega (arith, words (c .before .before .before .before))
-
-wide-requires-3 : tie.Need-wide-requires-3
-wide-requires-3 c κs = search needs
-
-clear-words-requires : tie.Need-clear-words-requires
-clear-words-requires c κs = search needs
-
-same-length : tie.Need-same-length
-same-length c = search needs
-
-returns : tie.Need-returns
-unfolding decodeReport
-returns c =
-    let a = c .before .before .before .before .before .before .before .before .before .before .before .before .before .before .before .args in
-    let e = function-large (a .functions .now) (a .area .now) (a .base) (a .id) (a .types .now) (a .last) (inside (c .before .before .before .before .before .before .before .before .before .before)) (omega (arith, c .before .before .before .before .if2 .taken, c .before .before .before .before .before .wide3 .ensures .0)) in
-    let w = refused _ answer.TooLarge 18 0 0 (a .out .now) _ e refl (c .before .before .clear-words .ensures) in
-    (w .answer-is, w .words-are)
+enum-known-place : tie.Need-enum-known-place
+enum-known-place c = search needs
 
 part-of-requires : tie.Need-part-of-requires
 part-of-requires c κs = search needs
@@ -78,27 +19,47 @@ part-of-requires c κs = search needs
 decode-under-requires : tie.Need-decode-under-requires
 decode-under-requires c κs = search needs
 
+enum-told : tie.Need-enum-told
+enum-told c = search needs
+
+clear-words-requires : tie.Need-clear-words-requires
+clear-words-requires c κs = search needs
+
+enum-told-2 : tie.Need-enum-told-2
+enum-told-2 c = search needs
+
+clear-words-requires-2 : tie.Need-clear-words-requires-2
+clear-words-requires-2 c κs = search needs
+
+same-length : tie.Need-same-length
+same-length c = search needs
+
+returns : tie.Need-returns
+unfolding outcomeAt
+returns c =
+    let a = c .before .before .before .before .before .before .before .before .before .before .before .before .args in
+    let e = function-as (a .types .now) (a .last) (a .functions .now) (a .area .now) (a .base) (a .id) (c .before .before .before .before .before .before .before .before .locate .ensures .0) (c .before .before .before .before .before .before .place .given .1) in
+    rw (e, sym (c .before .before .before .before .part-of .ensures)) (c .before .before .decode-under .ensures)
+
 same-length-2 : tie.Need-same-length-2
 same-length-2 c = search needs
 
 returns-2 : tie.Need-returns-2
+unfolding outcomeAt decodeReport
 returns-2 c =
-    let a = c .before .before .before .before .before .before .before .before .before .before .before .before .before .before .before .before .args in
-    let e = function-body (a .functions .now) (a .area .now) (a .base) (a .id) (a .types .now) (a .last) (inside (c .before .before .before .before .before .before .before .before .before .before .before)) (omega (arith, c .before .before .before .before .before .if2 .left, c .before .before .before .before .before .before .wide3 .ensures .0)) in
-    let b = rw (c .before .before .before .before .before .before .wide3 .ensures .0, c .before .before .before .before .before .before .before .before .wide2 .ensures .0, c .before .before .before .before .before .before .before .before .before .wide .ensures .0) at (c .before .before .before .before .part-of .ensures) in
-    rw (e, sym b) (c .before .before .decode-under .ensures)
-
-clear-words-requires-2 : tie.Need-clear-words-requires-2
-clear-words-requires-2 c κs = search needs
+    let a = c .before .before .before .before .before .before .before .before .before .before .args in
+    let e = function-as (a .types .now) (a .last) (a .functions .now) (a .area .now) (a .base) (a .id) (c .before .before .before .before .before .before .locate .ensures .0) (c .before .before .before .before .enum-told .given .1) in
+    let w = refused _ answer.TooLarge 18 0 0 (a .out .now) _ e refl (c .before .before .clear-words .ensures) in
+    (w .answer-is, w .words-are)
 
 same-length-3 : tie.Need-same-length-3
 same-length-3 c = search needs
 
 returns-3 : tie.Need-returns-3
-unfolding decodeReport
+unfolding outcomeAt decodeReport
 returns-3 c =
-    let a = c .before .before .before .before .before .before .before .before .before .args in
-    let e = function-none (a .functions .now) (a .area .now) (a .base) (a .id) (a .types .now) (a .last) (sym (c .before .before .before .before .before .in-area .ensures) ∙ c .before .before .before .before .if1 .left) in
+    let a = c .before .before .before .before .before .before .before .before .before .before .args in
+    let e = function-as (a .types .now) (a .last) (a .functions .now) (a .area .now) (a .base) (a .id) (c .before .before .before .before .before .before .locate .ensures .0) (c .before .before .before .before .enum-told2 .given .1) in
     let w = refused _ (answer.NoFunction (a .id)) 20 (a .id) 0 (a .out .now) _ e refl (c .before .before .clear-words2 .ensures) in
     (w .answer-is, w .words-are)
 
@@ -106,25 +67,17 @@ pub function-under-spec : {M : Type 1} → statement M
 function-under-spec =
     tie.close
     (tie.spec
-    in-area-requires
-    mul-wide
-    mul-wide-2
-    shared-slice-read-wide
-    wide-requires
-    wide-requires-2
-    sub-start
-    mul-wide-3
-    add-wide
-    mul-wide-4
-    shared-slice-read-wide-2
-    wide-requires-3
-    clear-words-requires
-    same-length
-    returns
+    locate-requires
+    enum-known-place
     part-of-requires
     decode-under-requires
+    enum-told
+    clear-words-requires
+    enum-told-2
+    clear-words-requires-2
+    same-length
+    returns
     same-length-2
     returns-2
-    clear-words-requires-2
     same-length-3
     returns-3)

@@ -4,6 +4,7 @@ use Prim.Native.Nat.{_-_, _/_}
 use Rattle.listing.specs.Functions.{areaOf}
 use Rattle.listing.specs.Parts.{optionsOf}
 use Rattle.spec_inputs.specs.Context.{contextFrom}
+use Rattle.list_module.proofs.ModuleLaws.{in-place}
 use Rattle.list_module.proofs.ModuleLoop.{Listing, listing-start, listing-turn, listing-stopped, listing-finished, not-listed}
 use borrow.Author.Needs.{needs}
 use Rattle.list_module.proofs.module.list_functions.Statement.{statement}
@@ -21,8 +22,11 @@ loop-holds c =
     let a = c .before .before .before .before .before .before .args in
     listing-start (optionsOf (a .options)) (contextFrom (a .sheet .now) (a .types .now) (a .ops .now) (a .bytes .now) (a .ends .now)) (a .last) (areaOf (a .functions .now) (a .area .now) (a .base)) (omega arith)
 
-list-function-in-requires : tie.Need-list-function-in-requires Inv-loop μ-loop
-list-function-in-requires c κs = omega (arith, c .before .before .loop .inv .at-is)
+locate-requires : tie.Need-locate-requires Inv-loop μ-loop
+locate-requires c κs = search needs
+
+list-located-requires : tie.Need-list-located-requires Inv-loop μ-loop
+list-located-requires c κs = (c .before .locate .ensures .1, omega (arith, c .before .before .before .loop .inv .at-is))
 
 enum-known-p : tie.Need-enum-known-p Inv-loop μ-loop
 enum-known-p c = search needs
@@ -32,8 +36,8 @@ same-length c = search needs
 
 returns : tie.Need-returns Inv-loop μ-loop
 returns c =
-    let a = c .before .before .before .before .before .before .before .before .before .before .before .before .before .args in
-    listing-stopped (optionsOf (a .options)) (contextFrom (a .sheet .now) (a .types .now) (a .ops .now) (a .bytes .now) (a .ends .now)) (a .last) (areaOf (a .functions .now) (a .area .now) (a .base)) (c .before .before .before .before .before .before .loop .inv) (c .before .before .before .before .before .loop-test .taken) (c .before .before .before .list-function-in .ensures) (λ k n q. not-listed (rw q at (c .match .keys2)))
+    let a = c .before .before .before .before .before .before .before .before .before .before .before .before .before .before .args in
+    listing-stopped (optionsOf (a .options)) (contextFrom (a .sheet .now) (a .types .now) (a .ops .now) (a .bytes .now) (a .ends .now)) (a .last) (areaOf (a .functions .now) (a .area .now) (a .base)) (c .before .before .before .before .before .before .before .loop .inv) (c .before .before .before .before .before .before .loop-test .taken) (in-place (optionsOf (a .options)) (contextFrom (a .sheet .now) (a .types .now) (a .ops .now) (a .bytes .now) (a .ends .now)) (a .last) (a .functions .now) (a .area .now) (a .base) _ (c .before .before .before .before .before .locate .ensures .0) (c .before .before .before .list-located .ensures)) (λ k n q. not-listed (rw q at (c .match .keys2)))
 
 capped-requires : tie.Need-capped-requires Inv-loop μ-loop
 capped-requires c κs = search needs
@@ -42,15 +46,15 @@ larger-requires : tie.Need-larger-requires Inv-loop μ-loop
 larger-requires c κs = search needs
 
 add-id : tie.Need-add-id Inv-loop μ-loop
-add-id c = record { fits = omega (arith, c .before .before .before .before .before .before .before .before .before .loop-test .taken, c .before .before .before .before .before .before .before .before .before .before .before .before .before .before .before .before .before .good .1 .1 .1 .1 .1 .1 .1 .0) }
+add-id c = record { fits = omega (arith, c .before .before .before .before .before .before .before .before .before .before .loop-test .taken, c .before .before .before .before .before .before .before .before .before .before .before .before .before .before .before .before .before .before .good .1 .1 .1 .1 .1 .1 .1 .0) }
 
 loop-less : tie.Need-loop-less Inv-loop μ-loop
 loop-less c = search needs
 
 loop-again : tie.Need-loop-again Inv-loop μ-loop
 loop-again c =
-    let a = c .before .before .before .before .before .before .before .before .before .before .before .before .before .before .before .before .before .args in
-    listing-turn (optionsOf (a .options)) (contextFrom (a .sheet .now) (a .types .now) (a .ops .now) (a .bytes .now) (a .ends .now)) (a .last) (areaOf (a .functions .now) (a .area .now) (a .base)) (c .before .before .before .before .before .before .before .before .before .before .loop .inv) (c .before .before .before .before .before .before .before .before .before .loop-test .taken) (c .before .before .before .before .before .before .before .list-function-in .ensures) (c .before .before .before .p .given .1) (c .before .capped .ensures) (c .larger .ensures)
+    let a = c .before .before .before .before .before .before .before .before .before .before .before .before .before .before .before .before .before .before .args in
+    listing-turn (optionsOf (a .options)) (contextFrom (a .sheet .now) (a .types .now) (a .ops .now) (a .bytes .now) (a .ends .now)) (a .last) (areaOf (a .functions .now) (a .area .now) (a .base)) (c .before .before .before .before .before .before .before .before .before .before .before .loop .inv) (c .before .before .before .before .before .before .before .before .before .before .loop-test .taken) (in-place (optionsOf (a .options)) (contextFrom (a .sheet .now) (a .types .now) (a .ops .now) (a .bytes .now) (a .ends .now)) (a .last) (a .functions .now) (a .area .now) (a .base) _ (c .before .before .before .before .before .before .before .before .before .locate .ensures .0) (c .before .before .before .before .before .before .before .list-located .ensures)) (c .before .before .before .p .given .1) (c .before .capped .ensures) (c .larger .ensures)
 
 same-length-2 : tie.Need-same-length-2 Inv-loop μ-loop
 same-length-2 c = search needs
@@ -67,7 +71,8 @@ list-functions-spec =
     Inv-loop
     μ-loop
     loop-holds
-    list-function-in-requires
+    locate-requires
+    list-located-requires
     enum-known-p
     same-length
     returns

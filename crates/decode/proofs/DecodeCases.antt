@@ -16,6 +16,7 @@ use Rattle.operation.specs.Places.{locatedOf}
 use Rattle.operation.specs.declared.area.Located.{Located}
 use Rattle.operation.specs.declared.area.Located.the-variants.{Inside, TooLarge, Outside}
 use Rattle.operation.proofs.AreaLaws.{by-place}
+use Rattle.spec_answers.specs.Outcome.{Outcome}
 
 module _ (text body : List ℕ) where
   pub decode-large : 65536 < length body → decode text body ≡ refusedWith 18 0 0

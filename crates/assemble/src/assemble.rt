@@ -13,14 +13,16 @@ use operation::inputs::Inputs;
 use slices::clearing::clear_labels;
 use slices::write::clear;
 
-// Space for the index of the texts: a small table has a small one, as clearing a large one takes longer than a short text. No
-// contract, since the types say the lengths.
-fn few_ids() -> [u32; 256] {
-    [0; 256]
+// A table of few strings has a small index, as clearing a large one takes longer than a short text.
+const FEW_STRINGS: usize = 256;
+
+// Space for the index of the texts, twice as many words as there may be strings. No contract, since the types say the lengths.
+fn few_ids() -> [u32; 2 * FEW_STRINGS] {
+    [0; 2 * FEW_STRINGS]
 }
 
-fn all_ids() -> [u32; limits::STRING_LIMIT] {
-    [0; limits::STRING_LIMIT]
+fn all_ids() -> [u32; 2 * limits::STRING_LIMIT] {
+    [0; 2 * limits::STRING_LIMIT]
 }
 
 // Assembles a text under a sheet given as text and a string table. A label entry is lent for each label that is taken.
@@ -48,12 +50,10 @@ pub fn assemble(
         clear_labels(labels);
         return crate::answer::refused_inputs(i);
     };
-    if ends.len() <= 256 {
-        let mut few_first = few_ids();
-        let mut few_next = few_ids();
+    if ends.len() <= FEW_STRINGS {
+        let mut few = few_ids();
         return crate::passes::assemble_under(
-            &mut few_first,
-            &mut few_next,
+            &mut few,
             sheet,
             &types,
             &ops,
@@ -64,11 +64,9 @@ pub fn assemble(
             labels,
         );
     }
-    let mut first_ids = all_ids();
-    let mut next_ids = all_ids();
+    let mut ids = all_ids();
     crate::passes::assemble_under(
-        &mut first_ids,
-        &mut next_ids,
+        &mut ids,
         sheet,
         &types,
         &ops,

@@ -21,8 +21,7 @@ pub enum Bytes {
 pub fn put_instructions(
     bytes: &[u8],
     ends: &[u32],
-    text_heads: &[u32],
-    text_nexts: &[u32],
+    ids: &[u32],
     text: &[u8],
     sheet: &[u8],
     types: &[[u8; 8]; 256],
@@ -33,7 +32,7 @@ pub fn put_instructions(
     work: &mut [u8],
     out: &mut [u8],
 ) -> Bytes
-    requires { ⌜ TextsIndexed (now bytes) (now ends) (now «text_heads») (now «text_nexts») × (lineLimit ≤ length (now work)) ⌝ }
+    requires { ⌜ TextsIndexed (now bytes) (now ends) (now ids) × (lineLimit ≤ length (now work)) ⌝ }
     requires { ⌜ LabelsKnown (now text) (now sheet) (now types) (now ops) (now names) (now labels) fits ⌝ }
     requires { ⌜ ((rest : Assembled) → unlessBadLine 1 (linesOf (now text)) rest ≡ rest) ⌝ }
     ensures { λ r. ⌜ BytesPut (bytesFrom (contextFrom (now (sheet .entry)) (now (types .entry)) (now (ops .entry)) (now (bytes .entry)) (now (ends .entry))) (labelsOf (contextFrom (now (sheet .entry)) (now (types .entry)) (now (ops .entry)) (now (bytes .entry)) (now (ends .entry))) (now (text .entry))) 0 (codesOf (contextFrom (now (sheet .entry)) (now (types .entry)) (now (ops .entry)) (now (bytes .entry)) (now (ends .entry))) (now (text .entry)))) (now (out .entry)) (now (out .exit)) r ⌝ }
@@ -50,8 +49,7 @@ pub fn put_instructions(
             offset,
             bytes,
             ends,
-            text_heads,
-            text_nexts,
+            ids,
             text,
             sheet,
             types,

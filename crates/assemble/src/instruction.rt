@@ -43,8 +43,7 @@ pub fn put_instruction(
     offset: usize,
     bytes: &[u8],
     ends: &[u32],
-    text_heads: &[u32],
-    text_nexts: &[u32],
+    ids: &[u32],
     text: &[u8],
     sheet: &[u8],
     types: &[[u8; 8]; 256],
@@ -56,7 +55,7 @@ pub fn put_instruction(
     out: &mut [u8],
     k: usize,
 ) -> Progress
-    requires { ⌜ TextsIndexed (now bytes) (now ends) (now «text_heads») (now «text_nexts») × (length (now s) ≤ lineLimit) × (lineLimit ≤ length (now work)) ⌝ }
+    requires { ⌜ TextsIndexed (now bytes) (now ends) (now ids) × (length (now s) ≤ lineLimit) × (lineLimit ≤ length (now work)) ⌝ }
     requires { ⌜ (offset < 2147483648) × LabelsKnown (now text) (now sheet) (now types) (now ops) (now names) (now labels) fits ⌝ }
     ensures { λ r. ⌜ InstructionPut (contextFrom (now (sheet .entry)) (now (types .entry)) (now (ops .entry)) (now (bytes .entry)) (now (ends .entry))) (labelsOf (contextFrom (now (sheet .entry)) (now (types .entry)) (now (ops .entry)) (now (bytes .entry)) (now (ends .entry))) (now (text .entry))) (now (s .entry)) offset (now (out .entry)) k (now (out .exit)) r ⌝ }
     ensures { λ r. ⌜ r .offset ≤ offset + 65 ⌝ }
@@ -83,8 +82,7 @@ pub fn put_instruction(
         offset,
         bytes,
         ends,
-        text_heads,
-        text_nexts,
+        ids,
         text,
         sheet,
         types,
@@ -121,8 +119,7 @@ pub fn put_line(
     offset: usize,
     bytes: &[u8],
     ends: &[u32],
-    text_heads: &[u32],
-    text_nexts: &[u32],
+    ids: &[u32],
     text: &[u8],
     sheet: &[u8],
     types: &[[u8; 8]; 256],
@@ -134,7 +131,7 @@ pub fn put_line(
     out: &mut [u8],
     k: usize,
 ) -> Progress
-    requires { ⌜ TextsIndexed (now bytes) (now ends) (now «text_heads») (now «text_nexts») × (lineLimit ≤ length (now work)) ⌝ }
+    requires { ⌜ TextsIndexed (now bytes) (now ends) (now ids) × (lineLimit ≤ length (now work)) ⌝ }
     requires { ⌜ LineAt (now text) at end offset × LabelsKnown (now text) (now sheet) (now types) (now ops) (now names) (now labels) fits ⌝ }
     ensures { λ r. ⌜ ((out₀ : List ℕ) (n : ℕ) → Going (contextFrom (now (sheet .entry)) (now (types .entry)) (now (ops .entry)) (now (bytes .entry)) (now (ends .entry))) (labelsOf (contextFrom (now (sheet .entry)) (now (types .entry)) (now (ops .entry)) (now (bytes .entry)) (now (ends .entry))) (now (text .entry))) (now (text .entry)) out₀ (now (out .entry)) k at n offset → Turned (contextFrom (now (sheet .entry)) (now (types .entry)) (now (ops .entry)) (now (bytes .entry)) (now (ends .entry))) (labelsOf (contextFrom (now (sheet .entry)) (now (types .entry)) (now (ops .entry)) (now (bytes .entry)) (now (ends .entry))) (now (text .entry))) (now (text .entry)) out₀ (now (out .exit)) (end + 1) n r) ⌝ }
     ensures { λ r. ⌜ r .offset ≤ offset + 65 ⌝ }
@@ -161,8 +158,7 @@ pub fn put_line(
             offset,
             bytes,
             ends,
-            text_heads,
-            text_nexts,
+            ids,
             text,
             sheet,
             types,

@@ -34,8 +34,7 @@ pub fn put_operands(
     offset: usize,
     bytes: &[u8],
     ends: &[u32],
-    text_heads: &[u32],
-    text_nexts: &[u32],
+    ids: &[u32],
     text: &[u8],
     sheet: &[u8],
     types: &[[u8; 8]; 256],
@@ -47,7 +46,7 @@ pub fn put_operands(
     out: &mut [u8],
     k: usize,
 ) -> Operands
-    requires { ⌜ TextsIndexed (now bytes) (now ends) (now «text_heads») (now «text_nexts») × (length (now s) ≤ lineLimit) × (lineLimit ≤ length (now work)) ⌝ }
+    requires { ⌜ TextsIndexed (now bytes) (now ends) (now ids) × (length (now s) ≤ lineLimit) × (lineLimit ≤ length (now work)) ⌝ }
     requires { ⌜ (offset < 2 ^ 32) × LabelsKnown (now text) (now sheet) (now types) (now ops) (now names) (now labels) fits ⌝ }
     ensures { λ r. ⌜ OperandsPut (operandsFrom (contextFrom (now (sheet .entry)) (now (types .entry)) (now (ops .entry)) (now (bytes .entry)) (now (ends .entry))) (labelsOf (contextFrom (now (sheet .entry)) (now (types .entry)) (now (ops .entry)) (now (bytes .entry)) (now (ends .entry))) (now (text .entry))) offset 1 row (tokens (splitOutside (now (s .entry))))) (now (out .entry)) k (now (out .exit)) r ⌝ }
 {
@@ -67,8 +66,7 @@ pub fn put_operands(
             offset,
             bytes,
             ends,
-            text_heads,
-            text_nexts,
+            ids,
             text,
             sheet,
             types,

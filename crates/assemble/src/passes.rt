@@ -33,10 +33,9 @@ fn held_labels(labels: &[Slot], count: usize) -> &[Slot]
 }
 
 // Writes the instructions of a text whose lines and names are good, and measures them. `count` labels are taken; the texts'
-// index goes to the two slices of ids.
+// index goes to `ids`.
 fn put_indexed(
-    first_ids: &mut [u32],
-    next_ids: &mut [u32],
+    ids: &mut [u32],
     sheet: &[u8],
     types: &[[u8; 8]; 256],
     ops: &[[usize; 4]; 256],
@@ -48,19 +47,18 @@ fn put_indexed(
     labels: &[Slot],
     out: &mut [u8],
 ) -> AssembleAnswer
-    requires { ⌜ IdSpace (now «first_ids») (now «next_ids») (now ends) × (length (now text) ≤ textLimit) × NamesIndexed (now sheet) (now ops) (now names) ⌝ }
+    requires { ⌜ IdSpace (now ids) (now ends) × (length (now text) ≤ textLimit) × NamesIndexed (now sheet) (now ops) (now names) ⌝ }
     requires { ⌜ NamesGood (now sheet) (now types) (now ops) (now text) count (now labels) × ((rest : Assembled) → unlessBadLine 1 (linesOf (now text)) rest ≡ rest) ⌝ }
     ensures { λ r. ⌜ Ended (textOutcome (contextFrom (now (sheet .entry)) (now (types .entry)) (now (ops .entry)) (now (bytes .entry)) (now (ends .entry))) (now (text .entry)) (length (now (labels .entry)))) (now (out .entry)) (now (out .exit)) r ⌝ }
 {
-    strings::text_index::index_texts(bytes, ends, first_ids, next_ids);
+    strings::text_index::index_texts(bytes, ends, ids);
     let mut work = [0u8; limits::LINE_LIMIT];
     let fits = count <= labels.len();
     let held = held_labels(labels, count);
     let b = crate::body::put_instructions(
         bytes,
         ends,
-        first_ids,
-        next_ids,
+        ids,
         text,
         sheet,
         types,
@@ -85,8 +83,7 @@ fn put_indexed(
 
 // Reads the names of a text whose lines are good, which stores the labels that fit, then writes its instructions.
 fn name_and_put(
-    first_ids: &mut [u32],
-    next_ids: &mut [u32],
+    ids: &mut [u32],
     sheet: &[u8],
     types: &[[u8; 8]; 256],
     ops: &[[usize; 4]; 256],
@@ -96,7 +93,7 @@ fn name_and_put(
     out: &mut [u8],
     labels: &mut [Slot],
 ) -> AssembleAnswer
-    requires { ⌜ IdSpace (now «first_ids») (now «next_ids») (now ends) × (length (now text) ≤ textLimit) ⌝ }
+    requires { ⌜ IdSpace (now ids) (now ends) × (length (now text) ≤ textLimit) ⌝ }
     requires { ⌜ ((rest : Assembled) → unlessBadLine 1 (linesOf (now text)) rest ≡ rest) ⌝ }
     ensures { λ r. ⌜ Ended (textOutcome (contextFrom (now (sheet .entry)) (now (types .entry)) (now (ops .entry)) (now (bytes .entry)) (now (ends .entry))) (now (text .entry)) (length (now (labels .entry)))) (now (out .entry)) (now (out .exit)) r ⌝ }
 {
@@ -105,8 +102,7 @@ fn name_and_put(
     let n = hasm_labels::names_pass::read_names(text, sheet, types, ops, &names, labels, b"");
     match n {
         Names::Good(count, _, _) => put_indexed(
-            first_ids,
-            next_ids,
+            ids,
             sheet,
             types,
             ops,
@@ -131,8 +127,7 @@ fn name_and_put(
 
 // All passes over a text, under the tables of a sheet whose names are parts of `sheet`. The labels are left as they were used.
 pub fn assemble_text(
-    first_ids: &mut [u32],
-    next_ids: &mut [u32],
+    ids: &mut [u32],
     sheet: &[u8],
     types: &[[u8; 8]; 256],
     ops: &[[usize; 4]; 256],
@@ -142,23 +137,12 @@ pub fn assemble_text(
     out: &mut [u8],
     labels: &mut [Slot],
 ) -> AssembleAnswer
-    requires { ⌜ IdSpace (now «first_ids») (now «next_ids») (now ends) × (length (now text) ≤ textLimit) ⌝ }
+    requires { ⌜ IdSpace (now ids) (now ends) × (length (now text) ≤ textLimit) ⌝ }
     ensures { λ r. ⌜ Ended (textOutcome (contextFrom (now (sheet .entry)) (now (types .entry)) (now (ops .entry)) (now (bytes .entry)) (now (ends .entry))) (now (text .entry)) (length (now (labels .entry)))) (now (out .entry)) (now (out .exit)) r ⌝ }
 {
     let c = hasm_read::lines::check_lines(text);
     match c {
-        Checked::Good => name_and_put(
-            first_ids,
-            next_ids,
-            sheet,
-            types,
-            ops,
-            bytes,
-            ends,
-            text,
-            out,
-            labels,
-        ),
+        Checked::Good => name_and_put(ids, sheet, types, ops, bytes, ends, text, out, labels),
         Checked::Long(line) => {
             clear(out);
             AssembleAnswer::Long(line)
@@ -170,11 +154,10 @@ pub fn assemble_text(
     }
 }
 
-// Assembles a text under the tables of a sheet, whose names are parts of `sheet`. The texts' index goes to the two slices of
-// ids and is left there, in a form that nobody has to know.
+// Assembles a text under the tables of a sheet, whose names are parts of `sheet`. The texts' index goes to `ids` and
+// is left there, in a form that nobody has to know.
 pub fn assemble_under(
-    first_ids: &mut [u32],
-    next_ids: &mut [u32],
+    ids: &mut [u32],
     sheet: &[u8],
     types: &[[u8; 8]; 256],
     ops: &[[usize; 4]; 256],
@@ -184,22 +167,11 @@ pub fn assemble_under(
     out: &mut [u8],
     labels: &mut [Slot],
 ) -> AssembleAnswer
-    requires { ⌜ IdSpace (now «first_ids») (now «next_ids») (now ends) × (length (now text) ≤ textLimit) ⌝ }
+    requires { ⌜ IdSpace (now ids) (now ends) × (length (now text) ≤ textLimit) ⌝ }
     ensures { λ r. ⌜ Ended (textOutcome (contextFrom (now (sheet .entry)) (now (types .entry)) (now (ops .entry)) (now (bytes .entry)) (now (ends .entry))) (now (text .entry)) (length (now (labels .entry)))) (now (out .entry)) (now (out .exit)) r ⌝ }
     ensures { λ _. ⌜ now (labels .exit) ≡ replicate (length (now (labels .entry))) (0 ∷ 0 ∷ 0 ∷ []) ⌝ }
 {
-    let a = assemble_text(
-        first_ids,
-        next_ids,
-        sheet,
-        types,
-        ops,
-        bytes,
-        ends,
-        text,
-        out,
-        labels,
-    );
+    let a = assemble_text(ids, sheet, types, ops, bytes, ends, text, out, labels);
     slices::clearing::clear_labels(labels);
     a
 }

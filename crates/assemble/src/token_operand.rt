@@ -30,17 +30,16 @@ fn direct_value(
     family: u8,
     bytes: &[u8],
     ends: &[u32],
-    text_heads: &[u32],
-    text_nexts: &[u32],
+    ids: &[u32],
     work: &mut [u8],
 ) -> Value
-    requires { ⌜ TextsIndexed (now bytes) (now ends) (now «text_heads») (now «text_nexts») × (length (now t) ≤ length (now work)) ⌝ }
+    requires { ⌜ TextsIndexed (now bytes) (now ends) (now ids) × (length (now t) ≤ length (now work)) ⌝ }
     ensures { λ r. ⌜ ((labels : List ℕ → search.Found) (offset code : ℕ) → familyOf code ≡ family → (family ≡ addrFamily → ⊥) → r ≡ tokenAnswer (tokenValue (now (bytes .entry)) (now (ends .entry)) labels offset code (now (t .entry)))) ⌝ }
 {
     match family {
         1 => register_value(t),
         2 => unsigned_value(t),
-        3 => string_value(t, bytes, ends, text_heads, text_nexts, work),
+        3 => string_value(t, bytes, ends, ids, work),
         5 => signed_value(t),
         _ => double_value(t),
     }
@@ -91,8 +90,7 @@ pub fn operand_value(
     offset: usize,
     bytes: &[u8],
     ends: &[u32],
-    text_heads: &[u32],
-    text_nexts: &[u32],
+    ids: &[u32],
     text: &[u8],
     sheet: &[u8],
     types: &[[u8; 8]; 256],
@@ -102,7 +100,7 @@ pub fn operand_value(
     fits: bool,
     work: &mut [u8],
 ) -> Value
-    requires { ⌜ TextsIndexed (now bytes) (now ends) (now «text_heads») (now «text_nexts») × (length (now t) ≤ length (now work)) ⌝ }
+    requires { ⌜ TextsIndexed (now bytes) (now ends) (now ids) × (length (now t) ≤ length (now work)) ⌝ }
     requires { ⌜ (offset < 2 ^ 32) × LabelsKnown (now text) (now sheet) (now types) (now ops) (now names) (now labels) fits ⌝ }
     ensures { λ r. ⌜ r ≡ tokenAnswer (tokenValue (now (bytes .entry)) (now (ends .entry)) (labelsOf (contextFrom (now (sheet .entry)) (now (types .entry)) (now (ops .entry)) (now (bytes .entry)) (now (ends .entry))) (now (text .entry))) offset code (now (t .entry))) ⌝ }
 {
@@ -122,5 +120,5 @@ pub fn operand_value(
             fits,
         );
     }
-    direct_value(t, family, bytes, ends, text_heads, text_nexts, work)
+    direct_value(t, family, bytes, ends, ids, work)
 }

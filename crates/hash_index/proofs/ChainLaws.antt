@@ -88,7 +88,7 @@ module _ (hash : ℕ → ℕ) (h : ℕ) where
     first-skip answer f l = from-skip answer n f k (n - k) (omega arith)
 
 -- no index is in a chain yet
-pub chained-none : (hash : ℕ → ℕ) (buckets n : ℕ) (heads nexts : List ℕ) → heads ≡ replicate buckets n → n ≤ length nexts → Chained hash buckets n n heads nexts
+chained-none : (hash : ℕ → ℕ) (buckets n : ℕ) (heads nexts : List ℕ) → heads ≡ replicate buckets n → n ≤ length nexts → Chained hash buckets n n heads nexts
 chained-none hash buckets n heads nexts e l = record {
   bucket-count = ap length e ∙ length-replicate buckets n;
   room = l;
@@ -98,7 +98,7 @@ chained-none hash buckets n heads nexts e l = record {
 
 -- the index in front of those in chains is put in front of the chain of its hash
 module _ (hash : ℕ → ℕ) (buckets n j k h : ℕ) (heads nexts heads′ nexts′ : List ℕ) where
-  pub chained-more : Chained hash buckets n j heads nexts → j ≡ k + 1 → k < n → h ≡ hash k → h < buckets → nexts′ ≡ set nexts k (getD heads h 0) → heads′ ≡ set heads h k → Chained hash buckets n k heads′ nexts′
+  chained-more : Chained hash buckets n j heads nexts → j ≡ k + 1 → k < n → h ≡ hash k → h < buckets → nexts′ ≡ set nexts k (getD heads h 0) → heads′ ≡ set heads h k → Chained hash buckets n k heads′ nexts′
   chained-more c s l e b p q = record {
     bucket-count = rw q (length-set heads h k ∙ c .bucket-count);
     room = rw p (omega (arith, length-set nexts k (getD heads h 0), c .room));
@@ -130,7 +130,7 @@ module _ (hash : ℕ → ℕ) (buckets n : ℕ) (index index′ : List ℕ) wher
       (rw (q, take-set-lt buckets more h k b, take-set-le buckets index (buckets + k) v (omega arith)) refl)
 
 -- every step of a walk goes on, so that it ends
-pub chain-rises : (hash : ℕ → ℕ) (buckets n : ℕ) (heads nexts : List ℕ) → Chained hash buckets n 0 heads nexts → (i : ℕ) → i < n → i < getD nexts i 0
+chain-rises : (hash : ℕ → ℕ) (buckets n : ℕ) (heads nexts : List ℕ) → Chained hash buckets n 0 heads nexts → (i : ℕ) → i < n → i < getD nexts i 0
 chain-rises hash buckets n heads nexts c i l = rw (c .next-of i (omega arith) l) (omega (arith, first-least hash (hash i) n (i + 1)))
 
 -- a walk of a chain: its start, and the step behind an index that is not the one looked for
@@ -138,10 +138,10 @@ module _ {A : Type 0} (hash : ℕ → ℕ) (buckets n h : ℕ) (heads nexts : Li
   on-from : (k : ℕ) → k ≤ n → answer 0 ≡ answer k → Walk hash n h answer (firstWith hash h n k)
   on-from k l e = record { reached = first-most hash h n k l; in-chain = first-hash hash h n k l; same-answer = e ∙ first-skip hash h n k answer f l }
 
-  pub walk-start : Walk hash n h answer (getD heads h 0)
+  walk-start : Walk hash n h answer (getD heads h 0)
   walk-start = rw (c .head-of h b) (on-from 0 (omega arith) refl)
 
-  pub walk-next : (i : ℕ) → Walk hash n h answer i → i < n → answer i ≡ answer (i + 1) → Walk hash n h answer (getD nexts i 0)
+  walk-next : (i : ℕ) → Walk hash n h answer i → i < n → answer i ≡ answer (i + 1) → Walk hash n h answer (getD nexts i 0)
   walk-next i w l e =
       rw (c .next-of i (omega arith) l, w .in-chain l) (on-from (i + 1) (omega arith) (w .same-answer ∙ e))
 

@@ -26,36 +26,13 @@ pub fn put_in_front(index: &mut [u32], m: usize, h: usize, i: usize)
     index[h] = i as u32;
 }
 
-// Every chain ends at once: its head is n, which is no index.
-pub fn empty_all(heads: &mut [u32], n: usize)
-    requires { ⌜ n < 2 ^ 32 ⌝ }
-    ensures { λ _. ⌜ now (heads .exit) ≡ replicate (length (now (heads .entry))) n ⌝ }
-{
-    let end = n as u32;
-    let mut i: usize = 0;
-    while i < heads.len() {
-        heads[i] = end;
-        i += 1;
-    }
-}
-
-// Puts index i in front of the chain of bucket h.
-pub fn insert(heads: &mut [u32], nexts: &mut [u32], h: usize, i: usize)
-    requires { ⌜ (h < length (now heads)) × (i < length (now nexts)) × (i < 2 ^ 32) ⌝ }
-    ensures { λ _. ⌜ now (heads .exit) ≡ set (now (heads .entry)) h i ⌝ }
-    ensures { λ _. ⌜ now (nexts .exit) ≡ set (now (nexts .entry)) i (getD (now (heads .entry)) h 0) ⌝ }
-{
-    nexts[i] = heads[h];
-    heads[h] = i as u32;
-}
-
 fn wide(x: u32) -> usize
     ensures { λ r. ⌜ r ≡ x ⌝ }
 {
     x as usize
 }
 
-// An element as an index, as heads and nexts hold them.
+// An element as an index, as heads and nexts are.
 pub fn index_at(s: &[u32], i: usize) -> usize
     requires { ⌜ i < length (now s) ⌝ }
     ensures { λ r. ⌜ r ≡ getD (now (s .entry)) i 0 ⌝ }

@@ -41,22 +41,15 @@ fn all_literal(s: &[u8]) -> bool
 }
 
 // The id of what stands between the quotes. A text without a backslash means itself, so it is looked up where it stands.
-fn quoted_value(
-    inside: &[u8],
-    bytes: &[u8],
-    ends: &[u32],
-    heads: &[u32],
-    nexts: &[u32],
-    work: &mut [u8],
-) -> Value
-    requires { ⌜ TextsIndexed (now bytes) (now ends) (now heads) (now nexts) × (length (now inside) ≤ length (now work)) ⌝ }
+fn quoted_value(inside: &[u8], bytes: &[u8], ends: &[u32], ids: &[u32], work: &mut [u8]) -> Value
+    requires { ⌜ TextsIndexed (now bytes) (now ends) (now ids) × (length (now inside) ≤ length (now work)) ⌝ }
     ensures { λ r. ⌜ r ≡ tokenAnswer (foundOr 10 (lookup (unescape false (now (inside .entry))) (now (bytes .entry)) (now (ends .entry)))) ⌝ }
 {
     if all_literal(inside) {
-        return index_or(10, lookup_indexed(inside, bytes, ends, heads, nexts));
+        return index_or(10, lookup_indexed(inside, bytes, ends, ids));
     }
     let n = put_unescaped(work, 0, inside);
-    index_or(10, lookup_indexed(&work[..n], bytes, ends, heads, nexts))
+    index_or(10, lookup_indexed(&work[..n], bytes, ends, ids))
 }
 
 // Whether a quote ends a token that a quote opens.
@@ -69,15 +62,8 @@ fn is_quoted(t: &[u8]) -> bool
     t[t.len() - 1] == 34
 }
 
-pub fn string_value(
-    t: &[u8],
-    bytes: &[u8],
-    ends: &[u32],
-    heads: &[u32],
-    nexts: &[u32],
-    work: &mut [u8],
-) -> Value
-    requires { ⌜ TextsIndexed (now bytes) (now ends) (now heads) (now nexts) × (length (now t) ≤ length (now work)) ⌝ }
+pub fn string_value(t: &[u8], bytes: &[u8], ends: &[u32], ids: &[u32], work: &mut [u8]) -> Value
+    requires { ⌜ TextsIndexed (now bytes) (now ends) (now ids) × (length (now t) ≤ length (now work)) ⌝ }
     ensures { λ r. ⌜ r ≡ tokenAnswer (stringValue (now (bytes .entry)) (now (ends .entry)) (now (t .entry))) ⌝ }
 {
     if t.len() == 0 {
@@ -89,5 +75,5 @@ pub fn string_value(
     if !is_quoted(t) {
         return Value::Refused(9);
     }
-    quoted_value(&t[1..t.len() - 1], bytes, ends, heads, nexts, work)
+    quoted_value(&t[1..t.len() - 1], bytes, ends, ids, work)
 }

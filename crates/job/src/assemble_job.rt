@@ -27,9 +27,9 @@ fn label_space() -> [Slot; limits::JOB_LABELS] {
     [[0; 3]; limits::JOB_LABELS]
 }
 
-// Space for the index of a job's strings, of which there are at most as many.
-fn id_space() -> [u32; limits::JOB_STRING_LIMIT] {
-    [0; limits::JOB_STRING_LIMIT]
+// Space for the index of a job's strings, twice as many words as there may be strings.
+fn id_space() -> [u32; 2 * limits::JOB_STRING_LIMIT] {
+    [0; 2 * limits::JOB_STRING_LIMIT]
 }
 
 // Assembles the text of a job whose lines are in order: 17, then as assembling a text, which asks for no largest opcode.
@@ -51,12 +51,10 @@ fn assemble_inputs(
         clear(out);
         return assemble::answer::refused_inputs(i);
     };
-    let mut first_ids = id_space();
-    let mut next_ids = id_space();
+    let mut ids = id_space();
     let mut labels = label_space();
     assemble::passes::assemble_under(
-        &mut first_ids,
-        &mut next_ids,
+        &mut ids,
         job,
         types,
         ops,

@@ -13,7 +13,7 @@ use Rattle.slices.specs.declared.search.Found.the-variants.{At, Missing}
 use Rattle.spec_strings.specs.Table.{textOf, lookupFrom, lookup, entryStart}
 use Rattle.spec_strings.proofs.TableSteps.{lookup-go, lookup-stop, lookup-end}
 use Rattle.hash_index.specs.Chain.{Walk}
-use Rattle.hash_index.proofs.ChainLaws.{walk-start, walk-next}
+use Rattle.hash_index.proofs.ChainLaws.{in-start, in-next}
 use Rattle.strings.specs.Keys.{bucketOf, bucketAt, TextsFrom, textFrom}
 
 -- an equal text has the text's bucket
@@ -34,13 +34,13 @@ module _ (m : ℕ) (text bytes ends : List ℕ) (h : ℕ) (e : h ≡ bucketOf m 
       other-text text bytes ends i l
       (by-test (same (textOf bytes ends i) text) (λ t. absurd (z (same-bucket m text bytes ends i t ∙ sym e))) (λ t. t))
 
-  module _ (heads nexts : List ℕ) (c : TextsFrom m 0 bytes ends heads nexts) (b : h < m) where
-    pub text-start : Walk (bucketAt m bytes ends) (length ends) h (textFrom text bytes ends) (getD heads h 0)
-    text-start = walk-start (bucketAt m bytes ends) m (length ends) h heads nexts (textFrom text bytes ends) c b passed
+  module _ (index : List ℕ) (c : TextsFrom m 0 bytes ends index) (b : h < m) where
+    pub text-start : Walk (bucketAt m bytes ends) (length ends) h (textFrom text bytes ends) (getD index h 0)
+    text-start = in-start (bucketAt m bytes ends) m (length ends) index c h (textFrom text bytes ends) b passed
 
     -- behind an id with another text
-    pub text-next : (k : ℕ) → Walk (bucketAt m bytes ends) (length ends) h (textFrom text bytes ends) k → k < length ends → same (textOf bytes ends k) text ≡ false → Walk (bucketAt m bytes ends) (length ends) h (textFrom text bytes ends) (getD nexts k 0)
-    text-next k w l t = walk-next (bucketAt m bytes ends) m (length ends) h heads nexts (textFrom text bytes ends) c b passed k w l (other-text text bytes ends k l t)
+    pub text-next : (k : ℕ) → Walk (bucketAt m bytes ends) (length ends) h (textFrom text bytes ends) k → k < length ends → same (textOf bytes ends k) text ≡ false → Walk (bucketAt m bytes ends) (length ends) h (textFrom text bytes ends) (getD index (m + k) 0)
+    text-next k w l t = in-next (bucketAt m bytes ends) m (length ends) index c h (textFrom text bytes ends) b passed k w l (other-text text bytes ends k l t)
 
 -- the id that has the text, and the end of the chain
 module _ (m : ℕ) (text bytes ends : List ℕ) (h k : ℕ) (w : Walk (bucketAt m bytes ends) (length ends) h (textFrom text bytes ends) k) where

@@ -1,12 +1,12 @@
-// The index is two lent slices: heads, one for each bucket, and a next for each id. It answers what `lookup` of the table
-// answers, however many heads are lent.
+// The index is one lent slice: its first half has a head for each bucket, the second a next for each id. It answers what
+// `lookup` of the table answers, however long it is.
 ghost use mathlib.Core.Path.{_≡_};
-ghost use Prim.Native.Nat.{_≤_, _<_};
+ghost use Prim.Native.Nat.{_+_, _≤_, _<_};
 ghost use lib.ListN.{length};
 ghost use Rattle.limits.specs.Limits.{stringLimit};
 ghost use Rattle.slices.specs.Answers.{foundOf};
 ghost use Rattle.spec_strings.specs.Table.{textOf, lookup, entryStart};
-ghost use Rattle.strings.specs.Keys.{bucketOf, TextsIndexed};
+ghost use Rattle.strings.specs.Keys.{bucketOf, textBuckets, TextsIndexed};
 use slices::search::Found;
 
 // Where the text of an id starts.
@@ -39,40 +39,36 @@ fn bucket_of(text: &[u8], m: usize) -> usize
 }
 
 // Puts the texts of all ids into chains, from the last id down, so that the first of equal texts is found.
-pub fn index_texts(bytes: &[u8], ends: &[u32], heads: &mut [u32], nexts: &mut [u32])
-    requires { ⌜ (0 < length (now heads)) × (length (now ends) ≤ stringLimit) × (length (now ends) ≤ length (now nexts)) ⌝ }
-    ensures { λ _. ⌜ TextsIndexed (now (bytes .entry)) (now (ends .entry)) (now (heads .exit)) (now (nexts .exit)) ⌝ }
+pub fn index_texts(bytes: &[u8], ends: &[u32], index: &mut [u32])
+    requires { ⌜ (0 < textBuckets (now index)) × (length (now ends) ≤ stringLimit) × (textBuckets (now index) + length (now ends) ≤ length (now index)) ⌝ }
+    ensures { λ _. ⌜ TextsIndexed (now (bytes .entry)) (now (ends .entry)) (now (index .exit)) ⌝ }
 {
-    hash_index::chain::empty_all(heads, ends.len());
+    let m = index.len() / 2;
+    hash_index::chain::empty_heads(index, m, ends.len());
     let mut left = ends.len();
     while 0 < left {
         let id = left - 1;
         let text = text_of(bytes, ends, id);
-        let h = bucket_of(text, heads.len());
-        hash_index::chain::insert(heads, nexts, h, id);
+        let h = bucket_of(text, m);
+        hash_index::chain::put_in_front(index, m, h, id);
         left -= 1;
     }
 }
 
 // The first id whose text is equal.
-pub fn lookup_indexed(
-    text: &[u8],
-    bytes: &[u8],
-    ends: &[u32],
-    heads: &[u32],
-    nexts: &[u32],
-) -> Found
-    requires { ⌜ TextsIndexed (now bytes) (now ends) (now heads) (now nexts) ⌝ }
+pub fn lookup_indexed(text: &[u8], bytes: &[u8], ends: &[u32], index: &[u32]) -> Found
+    requires { ⌜ TextsIndexed (now bytes) (now ends) (now index) ⌝ }
     ensures { λ r. ⌜ r ≡ foundOf (lookup (now (text .entry)) (now (bytes .entry)) (now (ends .entry))) ⌝ }
 {
-    let h = bucket_of(text, heads.len());
-    let mut id = hash_index::chain::index_at(heads, h);
+    let m = index.len() / 2;
+    let h = bucket_of(text, m);
+    let mut id = hash_index::chain::index_at(index, h);
     while id < ends.len() {
         let own = text_of(bytes, ends, id);
         if slices::compare::same_bytes(own, text) {
             return Found::At(id);
         }
-        id = hash_index::chain::index_at(nexts, id);
+        id = hash_index::chain::index_at(index, m + id);
     }
     Found::Missing
 }

@@ -50,17 +50,11 @@ returns-2 c = let a = c .before .before .before .before .before .before .before 
 few-ids-requires : tie.Need-few-ids-requires
 few-ids-requires c κs = search needs
 
-few-ids-requires-2 : tie.Need-few-ids-requires-2
-few-ids-requires-2 c κs = search needs
-
 slice-aggregate-assemble-under : tie.Need-slice-aggregate-assemble-under
 slice-aggregate-assemble-under c = search needs
 
-slice-aggregate-assemble-under-2 : tie.Need-slice-aggregate-assemble-under-2
-slice-aggregate-assemble-under-2 c = search needs
-
 assemble-under-requires : tie.Need-assemble-under-requires
-assemble-under-requires c κs = (record { some = search needs; each = search needs; few = few-strings (rw (c .before .before .before .before .before .before .before .before .before .enum-told .given .1) at (c .before .before .before .before .before .before .before .before .before .before .before .read-inputs .ensures)) }, c .before .before .before .before .before .before .before .before .before .before .before .before .before .before .if1 .left)
+assemble-under-requires c κs = (record { some = search needs; each = search needs; few = few-strings (rw (c .before .before .before .before .before .before .before .enum-told .given .1) at (c .before .before .before .before .before .before .before .before .before .read-inputs .ensures)) }, c .before .before .before .before .before .before .before .before .before .before .before .before .if1 .left)
 
 same-length-5 : tie.Need-same-length-5
 same-length-5 c = search needs
@@ -69,22 +63,16 @@ same-length-6 : tie.Need-same-length-6
 same-length-6 c = search needs
 
 returns-3 : tie.Need-returns-3
-returns-3 c = let a = c .before .before .before .before .before .before .before .before .before .before .before .before .before .before .before .before .before .before .before .before .before .before .before .before .before .before .args in (read-text (a .sheet .now) (a .bytes .now) (a .ends .now) (a .text .now) _ (c .before .before .before .before .before .before .before .before .before .before .before .before .before .before .before .before .before .before .before .before .if1 .left) (rw (c .before .before .before .before .before .before .before .before .before .before .before .before .before .before .before .enum-told .given .1) at (c .before .before .before .before .before .before .before .before .before .before .before .before .before .before .before .before .before .read-inputs .ensures)) (c .before .before .before .before .before .assemble-under .ensures .0), search needs)
+returns-3 c = let a = c .before .before .before .before .before .before .before .before .before .before .before .before .before .before .before .before .before .before .before .before .before .before .before .args in (read-text (a .sheet .now) (a .bytes .now) (a .ends .now) (a .text .now) _ (c .before .before .before .before .before .before .before .before .before .before .before .before .before .before .before .before .before .if1 .left) (rw (c .before .before .before .before .before .before .before .before .before .before .before .before .enum-told .given .1) at (c .before .before .before .before .before .before .before .before .before .before .before .before .before .before .read-inputs .ensures)) (c .before .before .before .before .assemble-under .ensures .0), search needs)
 
 all-ids-requires : tie.Need-all-ids-requires
 all-ids-requires c κs = search needs
 
-all-ids-requires-2 : tie.Need-all-ids-requires-2
-all-ids-requires-2 c κs = search needs
-
-slice-aggregate-assemble-under-3 : tie.Need-slice-aggregate-assemble-under-3
-slice-aggregate-assemble-under-3 c = search needs
-
-slice-aggregate-assemble-under-4 : tie.Need-slice-aggregate-assemble-under-4
-slice-aggregate-assemble-under-4 c = search needs
+slice-aggregate-assemble-under-2 : tie.Need-slice-aggregate-assemble-under-2
+slice-aggregate-assemble-under-2 c = search needs
 
 assemble-under-requires-2 : tie.Need-assemble-under-requires-2
-assemble-under-requires-2 c κs = let f = few-strings (rw (c .before .before .before .before .before .before .before .before .before .enum-told .given .1) at (c .before .before .before .before .before .before .before .before .before .before .before .read-inputs .ensures)) in (record { some = search needs; each = search needs; few = f }, c .before .before .before .before .before .before .before .before .before .before .before .before .before .before .if1 .left)
+assemble-under-requires-2 c κs = let f = few-strings (rw (c .before .before .before .before .before .before .before .enum-told .given .1) at (c .before .before .before .before .before .before .before .before .before .read-inputs .ensures)) in (record { some = search needs; each = search needs; few = f }, c .before .before .before .before .before .before .before .before .before .before .before .before .if1 .left)
 
 same-length-7 : tie.Need-same-length-7
 same-length-7 c = search needs
@@ -93,7 +81,7 @@ same-length-8 : tie.Need-same-length-8
 same-length-8 c = search needs
 
 returns-4 : tie.Need-returns-4
-returns-4 c = let a = c .before .before .before .before .before .before .before .before .before .before .before .before .before .before .before .before .before .before .before .before .before .before .before .before .before .before .args in (read-text (a .sheet .now) (a .bytes .now) (a .ends .now) (a .text .now) _ (c .before .before .before .before .before .before .before .before .before .before .before .before .before .before .before .before .before .before .before .before .if1 .left) (rw (c .before .before .before .before .before .before .before .before .before .before .before .before .before .before .before .enum-told .given .1) at (c .before .before .before .before .before .before .before .before .before .before .before .before .before .before .before .before .before .read-inputs .ensures)) (c .before .before .before .before .before .assemble-under2 .ensures .0), search needs)
+returns-4 c = let a = c .before .before .before .before .before .before .before .before .before .before .before .before .before .before .before .before .before .before .before .before .before .before .before .args in (read-text (a .sheet .now) (a .bytes .now) (a .ends .now) (a .text .now) _ (c .before .before .before .before .before .before .before .before .before .before .before .before .before .before .before .before .before .if1 .left) (rw (c .before .before .before .before .before .before .before .before .before .before .before .before .enum-told .given .1) at (c .before .before .before .before .before .before .before .before .before .before .before .before .before .before .read-inputs .ensures)) (c .before .before .before .before .assemble-under2 .ensures .0), search needs)
 
 pub assemble-spec : {M : Type 1} → statement M
 assemble-spec =
@@ -113,17 +101,13 @@ assemble-spec =
     same-length-4
     returns-2
     few-ids-requires
-    few-ids-requires-2
     slice-aggregate-assemble-under
-    slice-aggregate-assemble-under-2
     assemble-under-requires
     same-length-5
     same-length-6
     returns-3
     all-ids-requires
-    all-ids-requires-2
-    slice-aggregate-assemble-under-3
-    slice-aggregate-assemble-under-4
+    slice-aggregate-assemble-under-2
     assemble-under-requires-2
     same-length-7
     same-length-8

@@ -29,7 +29,7 @@ opcode-in-requires : tie.Need-opcode-in-requires
 opcode-in-requires c κs = omega arith
 
 returns : tie.Need-returns
-returns c = let a = c .before .before .before .before .before .before .before .before .before .before .before .before .before .before .before .before .args in let name = take (c .before .before .before .before .before .skip .result - 0) (a .s .now) in absurd (omega (arith, c .before .before .opcode-in .ensures (findName (a .sheet .now) name 0 (a .ops .now)) (c .before .before .before .find-indexed .ensures), opcode-inside (a .sheet .now) name (a .ops .now) (omega (arith, c .before .rows .given)), c .if1 .taken, c .before .rows .given))
+returns c = let a = c .before .before .before .before .before .before .before .before .before .before .before .before .before .before .before .args in let name = take (c .before .before .before .before .before .skip .result - 0) (a .s .now) in absurd (omega (arith, c .before .before .opcode-in .ensures (findName (a .sheet .now) name 0 (a .ops .now)) (c .before .before .before .find-indexed .ensures), opcode-inside (a .sheet .now) name (a .ops .now) (omega (arith, c .before .rows .given)), c .if1 .taken, c .before .rows .given))
 
 mul-row : tie.Need-mul-row
 mul-row c = omega arith
@@ -56,7 +56,7 @@ part-put-operands-end : tie.Need-part-put-operands-end
 part-put-operands-end c = omega arith
 
 put-operands-requires : tie.Need-put-operands-requires
-put-operands-requires c κs = ((c .before .before .before .before .before .before .before .before .before .before .before .before .before .before .before .before .before .before .before .before .before .before .before .before .before .pre .0 .0, tail-short (c .before .before .before .before .before .before .before .before .before .before .before .before .before .before .before .before .before .before .before .before .before .before .before .before .before .args .s .now) (c .before .before .before .before .before .before .before .skip2 .result) 4096 (c .before .before .before .before .before .before .before .before .before .before .before .before .before .before .before .before .before .before .before .before .before .before .before .before .before .pre .0 .1), c .before .before .before .before .before .before .before .before .before .before .before .before .before .before .before .before .before .before .before .before .before .before .before .before .before .pre .0 .2), (omega (arith, c .before .before .before .before .before .before .before .before .before .before .before .before .before .before .before .before .before .before .before .before .before .before .before .before .before .pre .1 .0), c .before .before .before .before .before .before .before .before .before .before .before .before .before .before .before .before .before .before .before .before .before .before .before .before .before .pre .1 .1))
+put-operands-requires c κs = ((c .before .before .before .before .before .before .before .before .before .before .before .before .before .before .before .before .before .before .before .before .before .before .before .before .pre .0 .0, tail-short (c .before .before .before .before .before .before .before .before .before .before .before .before .before .before .before .before .before .before .before .before .before .before .before .before .args .s .now) (c .before .before .before .before .before .before .before .skip2 .result) 4096 (c .before .before .before .before .before .before .before .before .before .before .before .before .before .before .before .before .before .before .before .before .before .before .before .before .pre .0 .1), c .before .before .before .before .before .before .before .before .before .before .before .before .before .before .before .before .before .before .before .before .before .before .before .before .pre .0 .2), (omega (arith, c .before .before .before .before .before .before .before .before .before .before .before .before .before .before .before .before .before .before .before .before .before .before .before .before .pre .1 .0), c .before .before .before .before .before .before .before .before .before .before .before .before .before .before .before .before .before .before .before .before .before .before .before .before .pre .1 .1))
 
 enum-known-o : tie.Need-enum-known-o
 enum-known-o c = omega arith
@@ -64,8 +64,8 @@ enum-known-o c = omega arith
 instruction-length-requires : tie.Need-instruction-length-requires
 instruction-length-requires c κs = omega arith
 
-add-t49 : tie.Need-add-t49
-add-t49 c = record { fits = omega (arith, c .before .before .before .before .before .before .before .before .before .before .before .before .before .before .before .before .before .before .before .before .before .before .before .before .before .before .before .before .before .before .before .before .before .before .pre .1 .0, c .instruction-length .ensures .1) }
+add-t48 : tie.Need-add-t48
+add-t48 c = record { fits = omega (arith, c .before .before .before .before .before .before .before .before .before .before .before .before .before .before .before .before .before .before .before .before .before .before .before .before .before .before .before .before .before .before .before .before .before .pre .1 .0, c .instruction-length .ensures .1) }
 
 enum-known-o-2 : tie.Need-enum-known-o-2
 enum-known-o-2 c = omega arith
@@ -77,7 +77,7 @@ same-length-2 : tie.Need-same-length-2
 same-length-2 c = omega arith
 
 returns-2 : tie.Need-returns-2
-returns-2 c = let a = c .before .before .before .before .before .before .before .before .before .before .before .before .before .before .before .before .before .before .before .before .before .before .before .before .before .before .before .before .before .before .before .before .before .before .args in let e = contextFrom (a .sheet .now) (a .types .now) (a .ops .now) (a .bytes .now) (a .ends .now) in let n = c .before .before .before .before .before .before .before .before .before .before .before .before .before .before .before .before .before .before .before .before .before .before .before .skip .result in let o = c .before .before .before .before .before .before .before .before .before .before .before .before .before .before .before .before .before .before .before .before .opcode-in .ensures (findName (a .sheet .now) (take (n - 0) (a .s .now)) 0 (a .ops .now)) (c .before .before .before .before .before .before .before .before .before .before .before .before .before .before .before .before .before .before .before .before .before .find-indexed .ensures) in (put-whole e (labelsOf e (a .text .now)) (a .s .now) (a .offset) n (c .before .before .before .before .before .before .before .before .before .before .before .before .before .before .before .before .skip2 .result) (c .before .before .before .before .before .before .before .before .before .before .before .before .before .before .before .before .before .before .before .before .before .before .before .skip .ensures .0) (c .before .before .before .before .before .before .before .before .before .before .before .before .before .before .before .before .skip2 .ensures .0) (c .before .before .before .before .before .before .before .before .before .before .before .before .before .before .before .before .before .before .before .before .opcode-in .result) (o ∙ opcode-is e (labelsOf e (a .text .now)) (a .s .now) (a .offset) n (c .before .before .before .before .before .before .before .before .before .before .before .before .before .before .before .before .skip2 .result) (c .before .before .before .before .before .before .before .before .before .before .before .before .before .before .before .before .before .before .before .before .before .before .before .skip .ensures .0) (c .before .before .before .before .before .before .before .before .before .before .before .before .before .before .before .before .skip2 .ensures .0)) (c .before .before .before .before .before .before .before .before .before .before .before .before .before .before .put-byte .ensures) _ _ (c .instruction-length .ensures .0) (rw (c .before .before .o .given .1) at (c .before .before .before .before .before .before .before .before .put-operands .ensures)), omega (arith, c .instruction-length .ensures .1))
+returns-2 c = let a = c .before .before .before .before .before .before .before .before .before .before .before .before .before .before .before .before .before .before .before .before .before .before .before .before .before .before .before .before .before .before .before .before .before .args in let e = contextFrom (a .sheet .now) (a .types .now) (a .ops .now) (a .bytes .now) (a .ends .now) in let n = c .before .before .before .before .before .before .before .before .before .before .before .before .before .before .before .before .before .before .before .before .before .before .before .skip .result in let o = c .before .before .before .before .before .before .before .before .before .before .before .before .before .before .before .before .before .before .before .before .opcode-in .ensures (findName (a .sheet .now) (take (n - 0) (a .s .now)) 0 (a .ops .now)) (c .before .before .before .before .before .before .before .before .before .before .before .before .before .before .before .before .before .before .before .before .before .find-indexed .ensures) in (put-whole e (labelsOf e (a .text .now)) (a .s .now) (a .offset) n (c .before .before .before .before .before .before .before .before .before .before .before .before .before .before .before .before .skip2 .result) (c .before .before .before .before .before .before .before .before .before .before .before .before .before .before .before .before .before .before .before .before .before .before .before .skip .ensures .0) (c .before .before .before .before .before .before .before .before .before .before .before .before .before .before .before .before .skip2 .ensures .0) (c .before .before .before .before .before .before .before .before .before .before .before .before .before .before .before .before .before .before .before .before .opcode-in .result) (o ∙ opcode-is e (labelsOf e (a .text .now)) (a .s .now) (a .offset) n (c .before .before .before .before .before .before .before .before .before .before .before .before .before .before .before .before .skip2 .result) (c .before .before .before .before .before .before .before .before .before .before .before .before .before .before .before .before .before .before .before .before .before .before .before .skip .ensures .0) (c .before .before .before .before .before .before .before .before .before .before .before .before .before .before .before .before .skip2 .ensures .0)) (c .before .before .before .before .before .before .before .before .before .before .before .before .before .before .put-byte .ensures) _ _ (c .instruction-length .ensures .0) (rw (c .before .before .o .given .1) at (c .before .before .before .before .before .before .before .before .put-operands .ensures)), omega (arith, c .instruction-length .ensures .1))
 
 same-length-3 : tie.Need-same-length-3
 same-length-3 c = omega arith
@@ -86,7 +86,7 @@ same-length-4 : tie.Need-same-length-4
 same-length-4 c = omega arith
 
 returns-3 : tie.Need-returns-3
-returns-3 c = let a = c .before .before .before .before .before .before .before .before .before .before .before .before .before .before .before .before .before .before .before .before .before .before .before .before .before .before .before .before .before .before .before .before .before .args in let e = contextFrom (a .sheet .now) (a .types .now) (a .ops .now) (a .bytes .now) (a .ends .now) in let n = c .before .before .before .before .before .before .before .before .before .before .before .before .before .before .before .before .before .before .before .before .before .before .skip .result in let o = c .before .before .before .before .before .before .before .before .before .before .before .before .before .before .before .before .before .before .before .opcode-in .ensures (findName (a .sheet .now) (take (n - 0) (a .s .now)) 0 (a .ops .now)) (c .before .before .before .before .before .before .before .before .before .before .before .before .before .before .before .before .before .before .before .before .find-indexed .ensures) in (put-refused e (labelsOf e (a .text .now)) (a .s .now) (a .offset) n (c .before .before .before .before .before .before .before .before .before .before .before .before .before .before .before .skip2 .result) (c .before .before .before .before .before .before .before .before .before .before .before .before .before .before .before .before .before .before .before .before .before .before .skip .ensures .0) (c .before .before .before .before .before .before .before .before .before .before .before .before .before .before .before .skip2 .ensures .0) (c .before .before .before .before .before .before .before .before .before .before .before .before .before .before .before .before .before .before .before .opcode-in .result) (o ∙ opcode-is e (labelsOf e (a .text .now)) (a .s .now) (a .offset) n (c .before .before .before .before .before .before .before .before .before .before .before .before .before .before .before .skip2 .result) (c .before .before .before .before .before .before .before .before .before .before .before .before .before .before .before .before .before .before .before .before .before .before .skip .ensures .0) (c .before .before .before .before .before .before .before .before .before .before .before .before .before .before .before .skip2 .ensures .0)) (c .before .before .before .before .before .before .before .before .before .before .before .before .before .put-byte .ensures) _ _ (rw (c .before .o2 .given .1) at (c .before .before .before .before .before .before .before .put-operands .ensures)), omega arith)
+returns-3 c = let a = c .before .before .before .before .before .before .before .before .before .before .before .before .before .before .before .before .before .before .before .before .before .before .before .before .before .before .before .before .before .before .before .before .args in let e = contextFrom (a .sheet .now) (a .types .now) (a .ops .now) (a .bytes .now) (a .ends .now) in let n = c .before .before .before .before .before .before .before .before .before .before .before .before .before .before .before .before .before .before .before .before .before .before .skip .result in let o = c .before .before .before .before .before .before .before .before .before .before .before .before .before .before .before .before .before .before .before .opcode-in .ensures (findName (a .sheet .now) (take (n - 0) (a .s .now)) 0 (a .ops .now)) (c .before .before .before .before .before .before .before .before .before .before .before .before .before .before .before .before .before .before .before .before .find-indexed .ensures) in (put-refused e (labelsOf e (a .text .now)) (a .s .now) (a .offset) n (c .before .before .before .before .before .before .before .before .before .before .before .before .before .before .before .skip2 .result) (c .before .before .before .before .before .before .before .before .before .before .before .before .before .before .before .before .before .before .before .before .before .before .skip .ensures .0) (c .before .before .before .before .before .before .before .before .before .before .before .before .before .before .before .skip2 .ensures .0) (c .before .before .before .before .before .before .before .before .before .before .before .before .before .before .before .before .before .before .before .opcode-in .result) (o ∙ opcode-is e (labelsOf e (a .text .now)) (a .s .now) (a .offset) n (c .before .before .before .before .before .before .before .before .before .before .before .before .before .before .before .skip2 .result) (c .before .before .before .before .before .before .before .before .before .before .before .before .before .before .before .before .before .before .before .before .before .before .skip .ensures .0) (c .before .before .before .before .before .before .before .before .before .before .before .before .before .before .before .skip2 .ensures .0)) (c .before .before .before .before .before .before .before .before .before .before .before .before .before .put-byte .ensures) _ _ (rw (c .before .o2 .given .1) at (c .before .before .before .before .before .before .before .put-operands .ensures)), omega arith)
 
 pub put-instruction-spec : {M : Type 1} → statement M
 put-instruction-spec =
@@ -110,7 +110,7 @@ put-instruction-spec =
     put-operands-requires
     enum-known-o
     instruction-length-requires
-    add-t49
+    add-t48
     enum-known-o-2
     same-length
     same-length-2

@@ -13,7 +13,7 @@ enum-told : tie.Need-enum-told
 enum-told c = search needs
 
 name-and-put-requires : tie.Need-name-and-put-requires
-name-and-put-requires c κs = (c .before .before .before .before .before .before .before .before .before .before .before .before .before .before .pre, lines-good (c .before .before .before .before .before .before .before .before .before .before .before .before .before .before .args .text .now) (c .before .before .before .before .before .before .check-lines .ensures) (c .before .before .before .before .enum-told .given .1))
+name-and-put-requires c κs = (c .before .before .before .before .before .before .before .before .before .before .before .before .pre, lines-good (c .before .before .before .before .before .before .before .before .before .before .before .before .args .text .now) (c .before .before .before .before .before .check-lines .ensures) (c .before .before .before .enum-told .given .1))
 
 enum-known-c : tie.Need-enum-known-c
 enum-known-c c = search needs
@@ -36,25 +36,22 @@ same-length-2 c = search needs
 same-length-3 : tie.Need-same-length-3
 same-length-3 c = search needs
 
+returns : tie.Need-returns
+returns c = c .before .before .before .before .before .name-and-put .ensures
+
 same-length-4 : tie.Need-same-length-4
 same-length-4 c = search needs
 
-returns : tie.Need-returns
-returns c = c .before .before .before .before .before .before .before .name-and-put .ensures
+returns-2 : tie.Need-returns-2
+unfolding assembleReport
+returns-2 c = let a = c .before .before .before .before .before .before .before .before .before .before .before .before .before .before .args in refused-text _ _ 3 _ _ (lines-bad (contextFrom (a .sheet .now) (a .types .now) (a .ops .now) (a .bytes .now) (a .ends .now)) (a .text .now) _ 3 _ (c .before .before .before .before .before .before .before .check-lines .ensures) (c .before .before .before .before .before .c .given .1) (λ rest. refl)) refl (c .before .before .clear .ensures)
 
 same-length-5 : tie.Need-same-length-5
 same-length-5 c = search needs
 
-returns-2 : tie.Need-returns-2
-unfolding assembleReport
-returns-2 c = let a = c .before .before .before .before .before .before .before .before .before .before .before .before .before .before .before .args in refused-text _ _ 3 _ _ (lines-bad (contextFrom (a .sheet .now) (a .types .now) (a .ops .now) (a .bytes .now) (a .ends .now)) (a .text .now) _ 3 _ (c .before .before .before .before .before .before .before .check-lines .ensures) (c .before .before .before .before .before .c .given .1) (λ rest. refl)) refl (c .before .before .clear .ensures)
-
-same-length-6 : tie.Need-same-length-6
-same-length-6 c = search needs
-
 returns-3 : tie.Need-returns-3
 unfolding assembleReport
-returns-3 c = let a = c .before .before .before .before .before .before .before .before .before .before .before .before .before .before .before .args in refused-text _ _ 2 _ _ (lines-bad (contextFrom (a .sheet .now) (a .types .now) (a .ops .now) (a .bytes .now) (a .ends .now)) (a .text .now) _ 2 _ (c .before .before .before .before .before .before .before .check-lines .ensures) (c .before .before .before .before .before .c2 .given .1) (λ rest. refl)) refl (c .before .before .clear2 .ensures)
+returns-3 c = let a = c .before .before .before .before .before .before .before .before .before .before .before .before .before .before .args in refused-text _ _ 2 _ _ (lines-bad (contextFrom (a .sheet .now) (a .types .now) (a .ops .now) (a .bytes .now) (a .ends .now)) (a .text .now) _ 2 _ (c .before .before .before .before .before .before .before .check-lines .ensures) (c .before .before .before .before .before .c2 .given .1) (λ rest. refl)) refl (c .before .before .clear2 .ensures)
 
 pub assemble-text-spec : {M : Type 1} → statement M
 assemble-text-spec =
@@ -70,9 +67,8 @@ assemble-text-spec =
     same-length
     same-length-2
     same-length-3
-    same-length-4
     returns
-    same-length-5
+    same-length-4
     returns-2
-    same-length-6
+    same-length-5
     returns-3)

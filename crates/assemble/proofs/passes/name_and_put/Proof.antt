@@ -30,7 +30,7 @@ slice-aggregate-put-indexed : tie.Need-slice-aggregate-put-indexed
 slice-aggregate-put-indexed c = search needs
 
 put-indexed-requires : tie.Need-put-indexed-requires
-put-indexed-requires c κs = let p = c .before .before .before .before .before .before .before .before .before .before .before .before .before .before .before .before .before .before .before .before .before .before .before .before .pre in ((p .0 .0, p .0 .1, c .before .before .before .before .before .before .before .before .before .before .before .before .before .before .index-names .ensures), (λ bytes ends. were-good _ _ _ (c .before .before .before .before .before .before .before .before .before .read-names .ensures bytes ends) (c .before .before .before .before .before .before .n .given .1), p .1))
+put-indexed-requires c κs = let p = c .before .before .before .before .before .before .before .before .before .before .before .before .before .before .before .before .before .before .before .before .before .before .pre in ((p .0 .0, p .0 .1, c .before .before .before .before .before .before .before .before .before .before .before .before .before .index-names .ensures), (λ bytes ends. were-good _ _ _ (c .before .before .before .before .before .before .before .before .read-names .ensures bytes ends) (c .before .before .before .before .before .n .given .1), p .1))
 
 enum-known-n-2 : tie.Need-enum-known-n-2
 enum-known-n-2 c = search needs
@@ -53,31 +53,28 @@ same-length-2 c = search needs
 same-length-3 : tie.Need-same-length-3
 same-length-3 c = search needs
 
+returns : tie.Need-returns
+returns c = rw (sym (c .before .before .before .before .before .before .before .before .before .before .before .before .before .read-names .kept .1 .1 .1 .1 .1 .0)) (c .before .before .before .before .put-indexed .ensures)
+
 same-length-4 : tie.Need-same-length-4
 same-length-4 c = search needs
-
-returns : tie.Need-returns
-returns c = rw (sym (c .before .before .before .before .before .before .before .before .before .before .before .before .before .before .before .before .read-names .kept .1 .1 .1 .1 .1 .0)) (c .before .before .before .before .before .before .put-indexed .ensures)
 
 same-length-5 : tie.Need-same-length-5
 same-length-5 c = search needs
 
-same-length-6 : tie.Need-same-length-6
-same-length-6 c = search needs
-
 returns-2 : tie.Need-returns-2
 unfolding assembleReport
-returns-2 c = refused-text _ _ 4 _ _ (was-unknown (c .before .before .before .before .before .before .before .before .before .before .before .before .before .before .before .before .before .before .before .before .before .before .before .pre .1) _ (c .before .before .before .before .before .before .before .before .read-names .ensures _ _) (c .before .before .before .before .before .n2 .given .1)) refl (c .before .before .clear .ensures)
+returns-2 c = refused-text _ _ 4 _ _ (was-unknown (c .before .before .before .before .before .before .before .before .before .before .before .before .before .before .before .before .before .before .before .before .before .before .pre .1) _ (c .before .before .before .before .before .before .before .before .read-names .ensures _ _) (c .before .before .before .before .before .n2 .given .1)) refl (c .before .before .clear .ensures)
+
+same-length-6 : tie.Need-same-length-6
+same-length-6 c = search needs
 
 same-length-7 : tie.Need-same-length-7
 same-length-7 c = search needs
 
-same-length-8 : tie.Need-same-length-8
-same-length-8 c = search needs
-
 returns-3 : tie.Need-returns-3
 unfolding assembleReport
-returns-3 c = refused-text _ _ 5 _ _ (was-miscounted (c .before .before .before .before .before .before .before .before .before .before .before .before .before .before .before .before .before .before .before .before .before .before .before .pre .1) _ (c .before .before .before .before .before .before .before .before .read-names .ensures _ _) (c .before .before .before .before .before .n3 .given .1)) refl (c .before .before .clear2 .ensures)
+returns-3 c = refused-text _ _ 5 _ _ (was-miscounted (c .before .before .before .before .before .before .before .before .before .before .before .before .before .before .before .before .before .before .before .before .before .before .pre .1) _ (c .before .before .before .before .before .before .before .before .read-names .ensures _ _) (c .before .before .before .before .before .n3 .given .1)) refl (c .before .before .clear2 .ensures)
 
 pub name-and-put-spec : {M : Type 1} → statement M
 name-and-put-spec =
@@ -99,11 +96,10 @@ name-and-put-spec =
     same-length
     same-length-2
     same-length-3
-    same-length-4
     returns
+    same-length-4
     same-length-5
-    same-length-6
     returns-2
+    same-length-6
     same-length-7
-    same-length-8
     returns-3)

@@ -8,7 +8,7 @@ use Rattle.assemble.proofs.passes.put_indexed.Statement.{statement}
 use Rattle.assemble.proofs.passes.put_indexed.Tie as tie
 
 index-texts-requires : tie.Need-index-texts-requires
-index-texts-requires c κs = let p = c .before .before .before .before .before .before .before .before .before .before .pre .0 .0 in (p .some, p .few, p .each)
+index-texts-requires c κs = let p = c .before .before .before .before .before .before .before .before .pre .0 .0 in (p .some, p .few, p .each)
 
 held-labels-requires : tie.Need-held-labels-requires
 held-labels-requires c κs = search needs
@@ -17,7 +17,7 @@ slice-aggregate-put-instructions : tie.Need-slice-aggregate-put-instructions
 slice-aggregate-put-instructions c = search needs
 
 put-instructions-requires : tie.Need-put-instructions-requires
-put-instructions-requires c κs = let st = c .before .before .before .before .before .before .before .before .before .before .before .before .before .before .before .before .before .before .before .before in let p = st .pre in ((c .before .before .before .before .before .before .before .before .before .index-texts .ensures, search needs), (labels-known (st .args .names .now) _ (p .0 .2) (p .0 .1) (p .1 .0) (λ t. leb-true _ _ t) (c .before .before .before .before .held-labels .ensures), p .1 .1))
+put-instructions-requires c κs = let st = c .before .before .before .before .before .before .before .before .before .before .before .before .before .before .before in let p = st .pre in ((c .before .before .before .before .before .before .index-texts .ensures, search needs), (labels-known (st .args .names .now) _ (p .0 .2) (p .0 .1) (p .1 .0) (λ t. leb-true _ _ t) (c .before .before .before .held-labels .ensures), p .1 .1))
 
 enum-known-b : tie.Need-enum-known-b
 enum-known-b c = search needs
@@ -40,24 +40,18 @@ same-length c = search needs
 same-length-2 : tie.Need-same-length-2
 same-length-2 c = search needs
 
+returns : tie.Need-returns
+returns c = let a = c .before .before .before .before .before .before .before .before .before .before .before .before .before .before .before .before .before .before .before .before .before .before .before .before .before .before .before .args in let p = c .before .before .before .before .before .before .before .before .before .before .before .before .before .before .before .before .before .before .before .before .before .before .before .before .before .before .before .pre .1 in let n = p .0 (a .bytes .now) (a .ends .now) in rw (good-text (contextFrom (a .sheet .now) (a .types .now) (a .ops .now) (a .bytes .now) (a .ends .now)) (a .text .now) (p .1) (n .named)) (written-end _ _ _ _ _ _ (c .before .before .before .before .before .before .before .before .before .before .before .put-instructions .ensures) (c .before .before .before .before .before .before .b .given .1) (n .counted) (c .before .before .before .measure .ensures) (c .measured-answer .ensures))
+
 same-length-3 : tie.Need-same-length-3
 same-length-3 c = search needs
-
-returns : tie.Need-returns
-returns c = let a = c .before .before .before .before .before .before .before .before .before .before .before .before .before .before .before .before .before .before .before .before .before .before .before .before .before .before .before .before .before .before .before .before .args in let p = c .before .before .before .before .before .before .before .before .before .before .before .before .before .before .before .before .before .before .before .before .before .before .before .before .before .before .before .before .before .before .before .before .pre .1 in let n = p .0 (a .bytes .now) (a .ends .now) in rw (good-text (contextFrom (a .sheet .now) (a .types .now) (a .ops .now) (a .bytes .now) (a .ends .now)) (a .text .now) (p .1) (n .named)) (written-end _ _ _ _ _ _ (c .before .before .before .before .before .before .before .before .before .before .before .put-instructions .ensures) (c .before .before .before .before .before .before .b .given .1) (n .counted) (c .before .before .before .measure .ensures) (c .measured-answer .ensures))
 
 same-length-4 : tie.Need-same-length-4
 same-length-4 c = search needs
 
-same-length-5 : tie.Need-same-length-5
-same-length-5 c = search needs
-
-same-length-6 : tie.Need-same-length-6
-same-length-6 c = search needs
-
 returns-2 : tie.Need-returns-2
 unfolding assembleReport
-returns-2 c = let a = c .before .before .before .before .before .before .before .before .before .before .before .before .before .before .before .before .before .before .before .before .before .before .before .before .before .before .before .before .before .before .before .args in let p = c .before .before .before .before .before .before .before .before .before .before .before .before .before .before .before .before .before .before .before .before .before .before .before .before .before .before .before .before .before .before .before .pre .1 in let n = p .0 (a .bytes .now) (a .ends .now) in rw (good-text (contextFrom (a .sheet .now) (a .types .now) (a .ops .now) (a .bytes .now) (a .ends .now)) (a .text .now) (p .1) (n .named)) (refused-body _ _ _ _ _ _ (c .before .before .before .before .before .before .before .before .before .before .put-instructions .ensures) (c .before .before .before .before .before .b2 .given .1) refl (c .before .before .clear .ensures))
+returns-2 c = let a = c .before .before .before .before .before .before .before .before .before .before .before .before .before .before .before .before .before .before .before .before .before .before .before .before .before .before .args in let p = c .before .before .before .before .before .before .before .before .before .before .before .before .before .before .before .before .before .before .before .before .before .before .before .before .before .before .pre .1 in let n = p .0 (a .bytes .now) (a .ends .now) in rw (good-text (contextFrom (a .sheet .now) (a .types .now) (a .ops .now) (a .bytes .now) (a .ends .now)) (a .text .now) (p .1) (n .named)) (refused-body _ _ _ _ _ _ (c .before .before .before .before .before .before .before .before .before .before .put-instructions .ensures) (c .before .before .before .before .before .b2 .given .1) refl (c .before .before .clear .ensures))
 
 pub put-indexed-spec : {M : Type 1} → statement M
 put-indexed-spec =
@@ -74,9 +68,7 @@ put-indexed-spec =
     clear-requires
     same-length
     same-length-2
-    same-length-3
     returns
+    same-length-3
     same-length-4
-    same-length-5
-    same-length-6
     returns-2)

@@ -15,16 +15,16 @@ index-or-requires : tie.Need-index-or-requires
 index-or-requires c κs = search needs
 
 returns : tie.Need-returns
-returns c = let a = c .before .before .before .before .before .before .before .before .before .before .args in text-read (a .bytes .now) (a .ends .now) (a .inside .now) (sym (unescape-literal (a .inside .now) (sym (c .before .before .before .all-literal .ensures) ∙ c .before .before .if1 .taken))) (c .before .lookup-indexed .ensures) (c .index-or .ensures)
+returns c = let a = c .before .before .before .before .before .before .before .before .before .args in text-read (a .bytes .now) (a .ends .now) (a .inside .now) (sym (unescape-literal (a .inside .now) (sym (c .before .before .before .all-literal .ensures) ∙ c .before .before .if1 .taken))) (c .before .lookup-indexed .ensures) (c .index-or .ensures)
 
 put-unescaped-requires : tie.Need-put-unescaped-requires
 put-unescaped-requires c κs = search needs
 
 slice-reshare-prefix-lookup-indexed : tie.Need-slice-reshare-prefix-lookup-indexed
-slice-reshare-prefix-lookup-indexed c = let a = c .before .before .before .before .before .before .before .before .before .before .before .before .args in written-room (a .work .now) (a .inside .now) _ _ (c .before .before .before .before .before .before .before .before .before .before .before .before .pre .1) (c .before .before .put-unescaped .ensures)
+slice-reshare-prefix-lookup-indexed c = let a = c .before .before .before .before .before .before .before .before .before .before .before .args in written-room (a .work .now) (a .inside .now) _ _ (c .before .before .before .before .before .before .before .before .before .before .before .pre .1) (c .before .before .put-unescaped .ensures)
 
 slice-aggregate-lookup-indexed : tie.Need-slice-aggregate-lookup-indexed
-slice-aggregate-lookup-indexed c = let a = c .before .before .before .before .before .before .before .before .before .before .before .before .before .args in sym (length-take-le _ _ (written-room (a .work .now) (a .inside .now) _ _ (c .before .before .before .before .before .before .before .before .before .before .before .before .before .pre .1) (c .before .before .before .put-unescaped .ensures)))
+slice-aggregate-lookup-indexed c = let a = c .before .before .before .before .before .before .before .before .before .before .before .before .args in sym (length-take-le _ _ (written-room (a .work .now) (a .inside .now) _ _ (c .before .before .before .before .before .before .before .before .before .before .before .before .pre .1) (c .before .before .before .put-unescaped .ensures)))
 
 lookup-indexed-requires-2 : tie.Need-lookup-indexed-requires-2
 lookup-indexed-requires-2 c κs = search needs
@@ -36,7 +36,7 @@ same-length : tie.Need-same-length
 same-length c = search needs
 
 returns-2 : tie.Need-returns-2
-returns-2 c = let a = c .before .before .before .before .before .before .before .before .before .before .before .before .before .before .before .args in text-read (a .bytes .now) (a .ends .now) (a .inside .now) (written-front (a .work .now) (a .inside .now) _ _ (c .before .before .before .before .before .before .before .before .before .before .before .before .before .before .before .pre .1) (c .before .before .before .before .before .put-unescaped .ensures)) (c .before .lookup-indexed2 .ensures) (c .index-or2 .ensures)
+returns-2 c = let a = c .before .before .before .before .before .before .before .before .before .before .before .before .before .before .args in text-read (a .bytes .now) (a .ends .now) (a .inside .now) (written-front (a .work .now) (a .inside .now) _ _ (c .before .before .before .before .before .before .before .before .before .before .before .before .before .before .pre .1) (c .before .before .before .before .before .put-unescaped .ensures)) (c .before .lookup-indexed2 .ensures) (c .index-or2 .ensures)
 
 pub quoted-value-spec : {M : Type 1} → statement M
 quoted-value-spec =

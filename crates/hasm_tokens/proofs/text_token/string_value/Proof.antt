@@ -11,7 +11,7 @@ unsigned-value-requires : tie.Need-unsigned-value-requires
 unsigned-value-requires c κs = search needs
 
 returns : tie.Need-returns
-returns c = let a = c .before .before .before .before .before .before .before .before .args in c .unsigned-value .ensures ∙ sym (ap tokenAnswer (string-empty (a .bytes .now) (a .ends .now) (a .t .now) (c .before .if1 .taken)))
+returns c = let a = c .before .before .before .before .before .before .before .args in c .unsigned-value .ensures ∙ sym (ap tokenAnswer (string-empty (a .bytes .now) (a .ends .now) (a .t .now) (c .before .if1 .taken)))
 
 shared-slice-read-if2 : tie.Need-shared-slice-read-if2
 shared-slice-read-if2 c = search needs
@@ -20,22 +20,22 @@ unsigned-value-requires-2 : tie.Need-unsigned-value-requires-2
 unsigned-value-requires-2 c κs = search needs
 
 returns-2 : tie.Need-returns-2
-returns-2 c = let a = c .before .before .before .before .before .before .before .before .before .before .args in c .unsigned-value2 .ensures ∙ sym (ap tokenAnswer (string-number (a .bytes .now) (a .ends .now) (a .t .now) (c .before .if2 .taken)))
+returns-2 c = let a = c .before .before .before .before .before .before .before .before .before .args in c .unsigned-value2 .ensures ∙ sym (ap tokenAnswer (string-number (a .bytes .now) (a .ends .now) (a .t .now) (c .before .if2 .taken)))
 
 is-quoted-requires : tie.Need-is-quoted-requires
 is-quoted-requires c κs = search needs
 
 returns-3 : tie.Need-returns-3
-returns-3 c = let a = c .before .before .before .before .before .before .before .before .before .before .before .args in sym (ap tokenAnswer (string-open (a .bytes .now) (a .ends .now) (a .t .now) (c .before .before .if2 .left) (sym (c .before .is-quoted .ensures) ∙ not-true _ (c .if3 .taken))))
+returns-3 c = let a = c .before .before .before .before .before .before .before .before .before .before .args in sym (ap tokenAnswer (string-open (a .bytes .now) (a .ends .now) (a .t .now) (c .before .before .if2 .left) (sym (c .before .is-quoted .ensures) ∙ not-true _ (c .if3 .taken))))
 
 sub-quoted-value : tie.Need-sub-quoted-value
 sub-quoted-value c = search needs
 
 sub-quoted-value-2 : tie.Need-sub-quoted-value-2
-sub-quoted-value-2 c = omega (arith, quoted-length (c .before .before .before .before .before .before .before .before .before .before .before .args .t .now) (sym (c .before .is-quoted .ensures) ∙ not-false _ (c .if3 .left)))
+sub-quoted-value-2 c = omega (arith, quoted-length (c .before .before .before .before .before .before .before .before .before .before .args .t .now) (sym (c .before .is-quoted .ensures) ∙ not-false _ (c .if3 .left)))
 
 part-quoted-value-start : tie.Need-part-quoted-value-start
-part-quoted-value-start c = omega (arith, quoted-length (c .before .before .before .before .before .before .before .before .before .before .before .args .t .now) (sym (c .before .is-quoted .ensures) ∙ not-false _ (c .if3 .left)))
+part-quoted-value-start c = omega (arith, quoted-length (c .before .before .before .before .before .before .before .before .before .before .args .t .now) (sym (c .before .is-quoted .ensures) ∙ not-false _ (c .if3 .left)))
 
 part-quoted-value-end : tie.Need-part-quoted-value-end
 part-quoted-value-end c = search needs
@@ -47,7 +47,7 @@ same-length : tie.Need-same-length
 same-length c = search needs
 
 returns-4 : tie.Need-returns-4
-returns-4 c = let a = c .before .before .before .before .before .before .before .before .before .before .before .before .before .before .before .before .args in string-read (a .bytes .now) (a .ends .now) (a .t .now) (c .before .before .before .before .before .before .before .if2 .left) (sym (c .before .before .before .before .before .before .is-quoted .ensures) ∙ not-false _ (c .before .before .before .before .before .if3 .left)) (c .before .before .quoted-value .ensures)
+returns-4 c = let a = c .before .before .before .before .before .before .before .before .before .before .before .before .before .before .before .args in string-read (a .bytes .now) (a .ends .now) (a .t .now) (c .before .before .before .before .before .before .before .if2 .left) (sym (c .before .before .before .before .before .before .is-quoted .ensures) ∙ not-false _ (c .before .before .before .before .before .if3 .left)) (c .before .before .quoted-value .ensures)
 
 pub string-value-spec : {M : Type 1} → statement M
 string-value-spec =

@@ -28,9 +28,6 @@ returns c = let w = were-refused _ _ _ _ (sym (c .before .before .before .before
 id-space-requires : tie.Need-id-space-requires
 id-space-requires c κs = search needs
 
-id-space-requires-2 : tie.Need-id-space-requires-2
-id-space-requires-2 c κs = search needs
-
 label-space-requires : tie.Need-label-space-requires
 label-space-requires c κs = search needs
 
@@ -40,9 +37,6 @@ slice-aggregate-assemble-under c = search needs
 slice-aggregate-assemble-under-2 : tie.Need-slice-aggregate-assemble-under-2
 slice-aggregate-assemble-under-2 c = search needs
 
-slice-aggregate-assemble-under-3 : tie.Need-slice-aggregate-assemble-under-3
-slice-aggregate-assemble-under-3 c = search needs
-
 assemble-under-requires : tie.Need-assemble-under-requires
 assemble-under-requires c κs = (record { some = search needs; each = search needs; few = search needs }, search needs)
 
@@ -50,7 +44,7 @@ same-length-2 : tie.Need-same-length-2
 same-length-2 c = search needs
 
 returns-2 : tie.Need-returns-2
-returns-2 c = ((λ os t o. assemble-ready _ _ _ _ os _ _ _ _ _ _ _ _ (were-ready _ _ _ _ (sym (c .before .before .before .before .before .before .before .before .before .before .before .before .before .before .before .table-inputs .ensures) ∙ c .before .before .before .before .before .before .before .before .before .before .before .before .before .enum-told .given .1)) t o (omega arith) (c .before .before .before .before .before .assemble-under .ensures .0)), assembled-length _ _ _ _ _ _ _ (c .before .before .before .before .before .assemble-under .ensures .0))
+returns-2 c = ((λ os t o. assemble-ready _ _ _ _ os _ _ _ _ _ _ _ _ (were-ready _ _ _ _ (sym (c .before .before .before .before .before .before .before .before .before .before .before .before .table-inputs .ensures) ∙ c .before .before .before .before .before .before .before .before .before .before .enum-told .given .1)) t o (omega arith) (c .before .before .before .before .assemble-under .ensures .0)), assembled-length _ _ _ _ _ _ _ (c .before .before .before .before .assemble-under .ensures .0))
 
 pub assemble-inputs-spec : {M : Type 1} → statement M
 assemble-inputs-spec =
@@ -63,11 +57,9 @@ assemble-inputs-spec =
     same-length
     returns
     id-space-requires
-    id-space-requires-2
     label-space-requires
     slice-aggregate-assemble-under
     slice-aggregate-assemble-under-2
-    slice-aggregate-assemble-under-3
     assemble-under-requires
     same-length-2
     returns-2)

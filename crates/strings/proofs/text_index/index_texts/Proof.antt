@@ -1,9 +1,7 @@
-use mathlib.Core.Path.{sym}
-use Rattle.spec_strings.specs.Table.{textOf}
-use lib.ListN.{replicate, length}
-use Rattle.strings.specs.Keys.{bucketOf, bucketAt, TextsFrom}
-use Rattle.hash_index.proofs.ChainLaws.{chained-none, chained-more}
-use Prim.Native.Nat.{ℕ, _-_, _≤_}
+use Rattle.strings.specs.Keys.{bucketOf, bucketAt, textBuckets, TextsFrom}
+use Rattle.hash_index.proofs.ChainLaws.{in-none, in-more}
+use lib.ListN.{length}
+use Prim.Native.Nat.{_-_, _≤_}
 use mathlib.Core.Path.{_∙_, refl, ap, _≡_}
 use native.Mathlib.Omega.{arith}
 use borrow.Author.Needs.{needs}
@@ -11,16 +9,20 @@ use Rattle.strings.proofs.text_index.index_texts.Statement.{statement}
 use Rattle.strings.proofs.text_index.index_texts.Tie as tie
 
 abbrev Inv-loop : tie.InvT-loop
-Inv-loop bytes ends heads₀ nexts₀ left₀ heads nexts left = (left ≤ length ends) × TextsFrom (length heads₀) left bytes ends heads nexts × (length heads ≡ length heads₀) × (length nexts ≡ length nexts₀)
+Inv-loop bytes ends index₀ m left₀ index left = (left ≤ length ends) × TextsFrom m left bytes ends index × (length index ≡ length index₀)
 
 abbrev μ-loop : tie.MeasureT-loop
-μ-loop bytes ends heads₀ nexts₀ left₀ heads nexts left = left
+μ-loop bytes ends index₀ m left₀ index left = left
 
-empty-all-requires : tie.Need-empty-all-requires Inv-loop μ-loop
-empty-all-requires c κs = search needs
+empty-heads-requires : tie.Need-empty-heads-requires Inv-loop μ-loop
+empty-heads-requires c κs = search needs
 
 loop-holds : tie.Need-loop-holds Inv-loop μ-loop
-loop-holds c = let a = c .before .before .before .before .before .before .before .before .args in let n = length (a .ends .now) in let m = length (c .before .before .empty-all .last .0) in (omega arith, chained-none (bucketAt m (a .bytes .now) (a .ends .now)) m n _ (a .nexts .now) (c .before .before .empty-all .ensures ∙ ap (λ (k : ℕ). replicate k n) (sym (c .before .before .empty-all .kept .0))) (c .before .before .before .before .before .before .before .before .pre .2), refl, refl)
+loop-holds c =
+    let st = c .before .before .before .before .before .before .before in
+    let a = st .args in
+    let m = textBuckets (a .index .now) in
+    (omega arith, in-none (bucketAt m (a .bytes .now) (a .ends .now)) m (length (a .ends .now)) (a .index .now) _ (c .before .before .empty-heads .ensures) (st .pre .2), refl)
 
 sub-id : tie.Need-sub-id Inv-loop μ-loop
 sub-id c = search needs
@@ -31,8 +33,8 @@ text-of-requires c κs = search needs
 bucket-of-requires : tie.Need-bucket-of-requires Inv-loop μ-loop
 bucket-of-requires c κs = search needs
 
-insert-requires : tie.Need-insert-requires Inv-loop μ-loop
-insert-requires c κs = search needs
+put-in-front-requires : tie.Need-put-in-front-requires Inv-loop μ-loop
+put-in-front-requires c κs = search needs
 
 sub-left : tie.Need-sub-left Inv-loop μ-loop
 sub-left c = search needs
@@ -42,19 +44,24 @@ loop-less c = search needs
 
 loop-again : tie.Need-loop-again Inv-loop μ-loop
 unfolding bucketAt
-loop-again c = let a = c .before .before .before .before .before .before .before .before .before .before .before .before .before .before .before .before .before .before .before .args in let l = c .before .before .before .before .before .before .before .before .before .before .loop in let m = length (c .before .before .before .before .before .before .before .before .before .before .before .before .before .empty-all .last .0) in let h = c .before .before .before .before .before .before .before .bucket-of in let s = c .before .before .before .before .insert in let same : length (l .heads) ≡ m = l .inv .2 in (omega arith, chained-more (bucketAt m (a .bytes .now) (a .ends .now)) m (length (a .ends .now)) (l .left) (l .left - 1) (h .result) (l .heads) (l .nexts) _ _ (l .inv .1) (omega arith) (omega arith) (h .ensures .0 ∙ (ap (bucketOf (length (l .heads))) (c .before .before .before .before .before .before .before .before .text-of .ensures) ∙ ap (λ (k : ℕ). bucketOf k (textOf (a .bytes .now) (a .ends .now) (l .left - 1))) same)) (omega (arith, h .ensures .1, same)) (s .ensures .1) (s .ensures .0), s .kept .0 ∙ l .inv .2, s .kept .1 .0 ∙ l .inv .3)
+loop-again c =
+    let a = c .before .before .before .before .before .before .before .before .before .before .before .before .before .before .before .args in
+    let m = textBuckets (a .index .now) in
+    let l = c .before .before .before .before .before .before .before .loop in
+    let h = c .before .before .before .before .bucket-of in
+    let s = c .before .before .put-in-front in
+    (omega arith, in-more (bucketAt m (a .bytes .now) (a .ends .now)) m (length (a .ends .now)) (l .index) _ (l .left) (l .left - 1) (h .result) (l .inv .1) (omega arith) (omega arith) (h .ensures .0 ∙ ap (bucketOf m) (c .before .before .before .before .before .text-of .ensures)) (h .ensures .1) (s .ensures), s .kept .0 ∙ l .inv .2)
 
 same-length : tie.Need-same-length Inv-loop μ-loop
 same-length c = search needs
 
-same-length-2 : tie.Need-same-length-2 Inv-loop μ-loop
-same-length-2 c = search needs
-
 returns : tie.Need-returns Inv-loop μ-loop
 returns c =
     let l = c .before .loop in
+    let st = c .before .before .before .before .before .before .before .before .before in
     let z : l .left ≡ 0 = omega arith in
-    record { some = omega (arith, l .inv .2); chained = rw (l .inv .2) (rw z at (l .inv .1)) }
+    let m : textBuckets (l .index) ≡ textBuckets (st .args .index .now) = omega (arith, l .inv .2, c .before .before .before .before .empty-heads .kept .0) in
+    record { some = omega (arith, m, st .pre .0); chained = rw m (rw z at (l .inv .1)) }
 
 pub index-texts-spec : {M : Type 1} → statement M
 index-texts-spec =
@@ -62,15 +69,14 @@ index-texts-spec =
     (tie.spec
     Inv-loop
     μ-loop
-    empty-all-requires
+    empty-heads-requires
     loop-holds
     sub-id
     text-of-requires
     bucket-of-requires
-    insert-requires
+    put-in-front-requires
     sub-left
     loop-less
     loop-again
     same-length
-    same-length-2
     returns)

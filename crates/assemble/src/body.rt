@@ -9,6 +9,7 @@ ghost use Rattle.strings.specs.Keys.{TextsIndexed};
 ghost use Rattle.assemble.specs.Contexts.{labelsOf, LabelsKnown};
 ghost use Rattle.spec_inputs.specs.Context.{contextFrom};
 ghost use Rattle.assemble.specs.Bodies.{BytesPut};
+use crate::operands::Place;
 use hasm_labels::label_entry::Slot;
 
 // The length of the body; or the number, the line and the operand that refuse it.
@@ -46,7 +47,7 @@ pub fn put_instructions(
         let p = crate::instruction::put_line(
             at,
             end,
-            offset,
+            Place { offset, k },
             bytes,
             ends,
             ids,
@@ -59,7 +60,6 @@ pub fn put_instructions(
             fits,
             work,
             out,
-            k,
         );
         if p.stopped {
             return Bytes::Refused(p.number, n, p.operand);

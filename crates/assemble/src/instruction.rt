@@ -13,6 +13,7 @@ ghost use Rattle.spec_inputs.specs.Context.{contextFrom};
 ghost use Rattle.assemble.specs.BodyPuts.{InstructionPut};
 ghost use Rattle.assemble.specs.Going.{Going, LineAt, Turned};
 use crate::operands::Operands;
+use crate::operands::Place;
 use hasm_labels::label_entry::Slot;
 use hasm_read::statement::Statement;
 use slices::search::Found;
@@ -37,10 +38,10 @@ fn opcode_in(f: Found) -> usize
     }
 }
 
-// Writes the instruction whose name and operands are s, at `offset`.
+// Writes the instruction whose name and operands are s at its place.
 pub fn put_instruction(
     s: &[u8],
-    offset: usize,
+    place: Place,
     bytes: &[u8],
     ends: &[u32],
     ids: &[u32],
@@ -53,13 +54,14 @@ pub fn put_instruction(
     fits: bool,
     work: &mut [u8],
     out: &mut [u8],
-    k: usize,
 ) -> Progress
     requires { ⌜ TextsIndexed (now bytes) (now ends) (now ids) × (length (now s) ≤ lineLimit) × (lineLimit ≤ length (now work)) ⌝ }
-    requires { ⌜ (offset < 2147483648) × LabelsKnown (now text) (now sheet) (now types) (now ops) (now names) (now labels) fits ⌝ }
-    ensures { λ r. ⌜ InstructionPut (contextFrom (now (sheet .entry)) (now (types .entry)) (now (ops .entry)) (now (bytes .entry)) (now (ends .entry))) (labelsOf (contextFrom (now (sheet .entry)) (now (types .entry)) (now (ops .entry)) (now (bytes .entry)) (now (ends .entry))) (now (text .entry))) (now (s .entry)) offset (now (out .entry)) k (now (out .exit)) r ⌝ }
-    ensures { λ r. ⌜ r .offset ≤ offset + 65 ⌝ }
+    requires { ⌜ (place .offset < 2147483648) × LabelsKnown (now text) (now sheet) (now types) (now ops) (now names) (now labels) fits ⌝ }
+    ensures { λ r. ⌜ InstructionPut (contextFrom (now (sheet .entry)) (now (types .entry)) (now (ops .entry)) (now (bytes .entry)) (now (ends .entry))) (labelsOf (contextFrom (now (sheet .entry)) (now (types .entry)) (now (ops .entry)) (now (bytes .entry)) (now (ends .entry))) (now (text .entry))) (now (s .entry)) (place .offset) (now (out .entry)) (place .k) (now (out .exit)) r ⌝ }
+    ensures { λ r. ⌜ r .offset ≤ place .offset + 65 ⌝ }
 {
+    let offset = place.offset;
+    let k = place.k;
     let n = hasm_read::white_space::skip(s, 0, false);
     let opcode = opcode_in(sheet::name_index::find_indexed(sheet, ops, names, &s[0..n]));
     // An opcode that was found has a row, so this test only shows that it is below 256.
@@ -79,7 +81,7 @@ pub fn put_instruction(
     let o = crate::operands::put_operands(
         &s[a..],
         row,
-        offset,
+        Place { offset, k: b },
         bytes,
         ends,
         ids,
@@ -92,7 +94,6 @@ pub fn put_instruction(
         fits,
         work,
         out,
-        b,
     );
     match o {
         Operands::Written(next) => Progress {
@@ -116,7 +117,7 @@ pub fn put_instruction(
 pub fn put_line(
     at: usize,
     end: usize,
-    offset: usize,
+    place: Place,
     bytes: &[u8],
     ends: &[u32],
     ids: &[u32],
@@ -129,33 +130,32 @@ pub fn put_line(
     fits: bool,
     work: &mut [u8],
     out: &mut [u8],
-    k: usize,
 ) -> Progress
     requires { ⌜ TextsIndexed (now bytes) (now ends) (now ids) × (lineLimit ≤ length (now work)) ⌝ }
-    requires { ⌜ LineAt (now text) at end offset × LabelsKnown (now text) (now sheet) (now types) (now ops) (now names) (now labels) fits ⌝ }
-    ensures { λ r. ⌜ ((out₀ : List ℕ) (n : ℕ) → Going (contextFrom (now (sheet .entry)) (now (types .entry)) (now (ops .entry)) (now (bytes .entry)) (now (ends .entry))) (labelsOf (contextFrom (now (sheet .entry)) (now (types .entry)) (now (ops .entry)) (now (bytes .entry)) (now (ends .entry))) (now (text .entry))) (now (text .entry)) out₀ (now (out .entry)) k at n offset → Turned (contextFrom (now (sheet .entry)) (now (types .entry)) (now (ops .entry)) (now (bytes .entry)) (now (ends .entry))) (labelsOf (contextFrom (now (sheet .entry)) (now (types .entry)) (now (ops .entry)) (now (bytes .entry)) (now (ends .entry))) (now (text .entry))) (now (text .entry)) out₀ (now (out .exit)) (end + 1) n r) ⌝ }
-    ensures { λ r. ⌜ r .offset ≤ offset + 65 ⌝ }
+    requires { ⌜ LineAt (now text) at end (place .offset) × LabelsKnown (now text) (now sheet) (now types) (now ops) (now names) (now labels) fits ⌝ }
+    ensures { λ r. ⌜ ((out₀ : List ℕ) (n : ℕ) → Going (contextFrom (now (sheet .entry)) (now (types .entry)) (now (ops .entry)) (now (bytes .entry)) (now (ends .entry))) (labelsOf (contextFrom (now (sheet .entry)) (now (types .entry)) (now (ops .entry)) (now (bytes .entry)) (now (ends .entry))) (now (text .entry))) (now (text .entry)) out₀ (now (out .entry)) (place .k) at n (place .offset) → Turned (contextFrom (now (sheet .entry)) (now (types .entry)) (now (ops .entry)) (now (bytes .entry)) (now (ends .entry))) (labelsOf (contextFrom (now (sheet .entry)) (now (types .entry)) (now (ops .entry)) (now (bytes .entry)) (now (ends .entry))) (now (text .entry))) (now (text .entry)) out₀ (now (out .exit)) (end + 1) n r) ⌝ }
+    ensures { λ r. ⌜ r .offset ≤ place .offset + 65 ⌝ }
 {
     let line = hasm_read::lines::line_of(text, at, end);
     let statement = hasm_read::statement::read_statement(line, sheet, ops, names);
     match statement {
         Statement::Nothing => Progress {
-            k,
-            offset,
+            k: place.k,
+            offset: place.offset,
             stopped: false,
             number: 0,
             operand: 0,
         },
         Statement::Label(_, _) => Progress {
-            k,
-            offset,
+            k: place.k,
+            offset: place.offset,
             stopped: false,
             number: 0,
             operand: 0,
         },
         Statement::Instruction(a, b) => put_instruction(
             &line[a..b],
-            offset,
+            place,
             bytes,
             ends,
             ids,
@@ -168,7 +168,6 @@ pub fn put_line(
             fits,
             work,
             out,
-            k,
         ),
     }
 }

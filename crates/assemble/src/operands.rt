@@ -19,6 +19,12 @@ pub enum Operands {
     Refused(u64, usize),
 }
 
+// Where an instruction stands: its offset, and the place of its bytes in the output.
+pub struct Place {
+    pub offset: usize,
+    pub k: usize,
+}
+
 // The place behind the comma at `end`, or the end of the text.
 fn behind_comma(end: usize, size: usize) -> usize
     requires { ⌜ end ≤ size ⌝ }
@@ -27,11 +33,11 @@ fn behind_comma(end: usize, size: usize) -> usize
     if end < size { end + 1 } else { size }
 }
 
-// Writes the operands that stand in s, whose types are the row's, of the instruction at `offset`.
+// Writes the operands that stand in s, whose types are the row's, from `place` on.
 pub fn put_operands(
     s: &[u8],
     row: [u8; 8],
-    offset: usize,
+    place: Place,
     bytes: &[u8],
     ends: &[u32],
     ids: &[u32],
@@ -44,13 +50,13 @@ pub fn put_operands(
     fits: bool,
     work: &mut [u8],
     out: &mut [u8],
-    k: usize,
 ) -> Operands
     requires { ⌜ TextsIndexed (now bytes) (now ends) (now ids) × (length (now s) ≤ lineLimit) × (lineLimit ≤ length (now work)) ⌝ }
-    requires { ⌜ (offset < 2 ^ 32) × LabelsKnown (now text) (now sheet) (now types) (now ops) (now names) (now labels) fits ⌝ }
-    ensures { λ r. ⌜ OperandsPut (operandsFrom (contextFrom (now (sheet .entry)) (now (types .entry)) (now (ops .entry)) (now (bytes .entry)) (now (ends .entry))) (labelsOf (contextFrom (now (sheet .entry)) (now (types .entry)) (now (ops .entry)) (now (bytes .entry)) (now (ends .entry))) (now (text .entry))) offset 1 row (tokens (splitOutside (now (s .entry))))) (now (out .entry)) k (now (out .exit)) r ⌝ }
+    requires { ⌜ (place .offset < 2 ^ 32) × LabelsKnown (now text) (now sheet) (now types) (now ops) (now names) (now labels) fits ⌝ }
+    ensures { λ r. ⌜ OperandsPut (operandsFrom (contextFrom (now (sheet .entry)) (now (types .entry)) (now (ops .entry)) (now (bytes .entry)) (now (ends .entry))) (labelsOf (contextFrom (now (sheet .entry)) (now (types .entry)) (now (ops .entry)) (now (bytes .entry)) (now (ends .entry))) (now (text .entry))) (place .offset) 1 row (tokens (splitOutside (now (s .entry))))) (now (out .entry)) (place .k) (now (out .exit)) r ⌝ }
 {
-    let mut n = k;
+    let offset = place.offset;
+    let mut n = place.k;
     let mut p: usize = 0;
     let mut i: usize = 0;
     while i < 8 {

@@ -64,8 +64,8 @@ enum-known-o c = omega arith
 instruction-length-requires : tie.Need-instruction-length-requires
 instruction-length-requires c κs = omega arith
 
-add-t48 : tie.Need-add-t48
-add-t48 c = record { fits = omega (arith, c .before .before .before .before .before .before .before .before .before .before .before .before .before .before .before .before .before .before .before .before .before .before .before .before .before .before .before .before .before .before .before .before .before .pre .1 .0, c .instruction-length .ensures .1) }
+add-t50 : tie.Need-add-t50
+add-t50 c = record { fits = omega (arith, c .before .before .before .before .before .before .before .before .before .before .before .before .before .before .before .before .before .before .before .before .before .before .before .before .before .before .before .before .before .before .before .before .before .pre .1 .0, c .instruction-length .ensures .1) }
 
 enum-known-o-2 : tie.Need-enum-known-o-2
 enum-known-o-2 c = omega arith
@@ -77,7 +77,7 @@ same-length-2 : tie.Need-same-length-2
 same-length-2 c = omega arith
 
 returns-2 : tie.Need-returns-2
-returns-2 c = let a = c .before .before .before .before .before .before .before .before .before .before .before .before .before .before .before .before .before .before .before .before .before .before .before .before .before .before .before .before .before .before .before .before .before .args in let e = contextFrom (a .sheet .now) (a .types .now) (a .ops .now) (a .bytes .now) (a .ends .now) in let n = c .before .before .before .before .before .before .before .before .before .before .before .before .before .before .before .before .before .before .before .before .before .before .before .skip .result in let o = c .before .before .before .before .before .before .before .before .before .before .before .before .before .before .before .before .before .before .before .before .opcode-in .ensures (findName (a .sheet .now) (take (n - 0) (a .s .now)) 0 (a .ops .now)) (c .before .before .before .before .before .before .before .before .before .before .before .before .before .before .before .before .before .before .before .before .before .find-indexed .ensures) in (put-whole e (labelsOf e (a .text .now)) (a .s .now) (a .offset) n (c .before .before .before .before .before .before .before .before .before .before .before .before .before .before .before .before .skip2 .result) (c .before .before .before .before .before .before .before .before .before .before .before .before .before .before .before .before .before .before .before .before .before .before .before .skip .ensures .0) (c .before .before .before .before .before .before .before .before .before .before .before .before .before .before .before .before .skip2 .ensures .0) (c .before .before .before .before .before .before .before .before .before .before .before .before .before .before .before .before .before .before .before .before .opcode-in .result) (o ∙ opcode-is e (labelsOf e (a .text .now)) (a .s .now) (a .offset) n (c .before .before .before .before .before .before .before .before .before .before .before .before .before .before .before .before .skip2 .result) (c .before .before .before .before .before .before .before .before .before .before .before .before .before .before .before .before .before .before .before .before .before .before .before .skip .ensures .0) (c .before .before .before .before .before .before .before .before .before .before .before .before .before .before .before .before .skip2 .ensures .0)) (c .before .before .before .before .before .before .before .before .before .before .before .before .before .before .put-byte .ensures) _ _ (c .instruction-length .ensures .0) (rw (c .before .before .o .given .1) at (c .before .before .before .before .before .before .before .before .put-operands .ensures)), omega (arith, c .instruction-length .ensures .1))
+returns-2 c = let a = c .before .before .before .before .before .before .before .before .before .before .before .before .before .before .before .before .before .before .before .before .before .before .before .before .before .before .before .before .before .before .before .before .before .args in let e = contextFrom (a .sheet .now) (a .types .now) (a .ops .now) (a .bytes .now) (a .ends .now) in let n = c .before .before .before .before .before .before .before .before .before .before .before .before .before .before .before .before .before .before .before .before .before .before .before .skip .result in let o = c .before .before .before .before .before .before .before .before .before .before .before .before .before .before .before .before .before .before .before .before .opcode-in .ensures (findName (a .sheet .now) (take (n - 0) (a .s .now)) 0 (a .ops .now)) (c .before .before .before .before .before .before .before .before .before .before .before .before .before .before .before .before .before .before .before .before .before .find-indexed .ensures) in (put-whole e (labelsOf e (a .text .now)) (a .s .now) (a .place .offset) n (c .before .before .before .before .before .before .before .before .before .before .before .before .before .before .before .before .skip2 .result) (c .before .before .before .before .before .before .before .before .before .before .before .before .before .before .before .before .before .before .before .before .before .before .before .skip .ensures .0) (c .before .before .before .before .before .before .before .before .before .before .before .before .before .before .before .before .skip2 .ensures .0) (c .before .before .before .before .before .before .before .before .before .before .before .before .before .before .before .before .before .before .before .before .opcode-in .result) (o ∙ opcode-is e (labelsOf e (a .text .now)) (a .s .now) (a .place .offset) n (c .before .before .before .before .before .before .before .before .before .before .before .before .before .before .before .before .skip2 .result) (c .before .before .before .before .before .before .before .before .before .before .before .before .before .before .before .before .before .before .before .before .before .before .before .skip .ensures .0) (c .before .before .before .before .before .before .before .before .before .before .before .before .before .before .before .before .skip2 .ensures .0)) (c .before .before .before .before .before .before .before .before .before .before .before .before .before .before .put-byte .ensures) _ _ (c .instruction-length .ensures .0) (rw (c .before .before .o .given .1) at (c .before .before .before .before .before .before .before .before .put-operands .ensures)), omega (arith, c .instruction-length .ensures .1))
 
 same-length-3 : tie.Need-same-length-3
 same-length-3 c = omega arith
@@ -86,7 +86,7 @@ same-length-4 : tie.Need-same-length-4
 same-length-4 c = omega arith
 
 returns-3 : tie.Need-returns-3
-returns-3 c = let a = c .before .before .before .before .before .before .before .before .before .before .before .before .before .before .before .before .before .before .before .before .before .before .before .before .before .before .before .before .before .before .before .before .args in let e = contextFrom (a .sheet .now) (a .types .now) (a .ops .now) (a .bytes .now) (a .ends .now) in let n = c .before .before .before .before .before .before .before .before .before .before .before .before .before .before .before .before .before .before .before .before .before .before .skip .result in let o = c .before .before .before .before .before .before .before .before .before .before .before .before .before .before .before .before .before .before .before .opcode-in .ensures (findName (a .sheet .now) (take (n - 0) (a .s .now)) 0 (a .ops .now)) (c .before .before .before .before .before .before .before .before .before .before .before .before .before .before .before .before .before .before .before .before .find-indexed .ensures) in (put-refused e (labelsOf e (a .text .now)) (a .s .now) (a .offset) n (c .before .before .before .before .before .before .before .before .before .before .before .before .before .before .before .skip2 .result) (c .before .before .before .before .before .before .before .before .before .before .before .before .before .before .before .before .before .before .before .before .before .before .skip .ensures .0) (c .before .before .before .before .before .before .before .before .before .before .before .before .before .before .before .skip2 .ensures .0) (c .before .before .before .before .before .before .before .before .before .before .before .before .before .before .before .before .before .before .before .opcode-in .result) (o ∙ opcode-is e (labelsOf e (a .text .now)) (a .s .now) (a .offset) n (c .before .before .before .before .before .before .before .before .before .before .before .before .before .before .before .skip2 .result) (c .before .before .before .before .before .before .before .before .before .before .before .before .before .before .before .before .before .before .before .before .before .before .skip .ensures .0) (c .before .before .before .before .before .before .before .before .before .before .before .before .before .before .before .skip2 .ensures .0)) (c .before .before .before .before .before .before .before .before .before .before .before .before .before .put-byte .ensures) _ _ (rw (c .before .o2 .given .1) at (c .before .before .before .before .before .before .before .put-operands .ensures)), omega arith)
+returns-3 c = let a = c .before .before .before .before .before .before .before .before .before .before .before .before .before .before .before .before .before .before .before .before .before .before .before .before .before .before .before .before .before .before .before .before .args in let e = contextFrom (a .sheet .now) (a .types .now) (a .ops .now) (a .bytes .now) (a .ends .now) in let n = c .before .before .before .before .before .before .before .before .before .before .before .before .before .before .before .before .before .before .before .before .before .before .skip .result in let o = c .before .before .before .before .before .before .before .before .before .before .before .before .before .before .before .before .before .before .before .opcode-in .ensures (findName (a .sheet .now) (take (n - 0) (a .s .now)) 0 (a .ops .now)) (c .before .before .before .before .before .before .before .before .before .before .before .before .before .before .before .before .before .before .before .before .find-indexed .ensures) in (put-refused e (labelsOf e (a .text .now)) (a .s .now) (a .place .offset) n (c .before .before .before .before .before .before .before .before .before .before .before .before .before .before .before .skip2 .result) (c .before .before .before .before .before .before .before .before .before .before .before .before .before .before .before .before .before .before .before .before .before .before .skip .ensures .0) (c .before .before .before .before .before .before .before .before .before .before .before .before .before .before .before .skip2 .ensures .0) (c .before .before .before .before .before .before .before .before .before .before .before .before .before .before .before .before .before .before .before .opcode-in .result) (o ∙ opcode-is e (labelsOf e (a .text .now)) (a .s .now) (a .place .offset) n (c .before .before .before .before .before .before .before .before .before .before .before .before .before .before .before .skip2 .result) (c .before .before .before .before .before .before .before .before .before .before .before .before .before .before .before .before .before .before .before .before .before .before .skip .ensures .0) (c .before .before .before .before .before .before .before .before .before .before .before .before .before .before .before .skip2 .ensures .0)) (c .before .before .before .before .before .before .before .before .before .before .before .before .before .put-byte .ensures) _ _ (rw (c .before .o2 .given .1) at (c .before .before .before .before .before .before .before .put-operands .ensures)), omega arith)
 
 pub put-instruction-spec : {M : Type 1} → statement M
 put-instruction-spec =
@@ -110,7 +110,7 @@ put-instruction-spec =
     put-operands-requires
     enum-known-o
     instruction-length-requires
-    add-t48
+    add-t50
     enum-known-o-2
     same-length
     same-length-2

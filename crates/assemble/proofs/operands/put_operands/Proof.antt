@@ -12,11 +12,11 @@ use Rattle.assemble.proofs.operands.put_operands.Statement.{statement}
 use Rattle.assemble.proofs.operands.put_operands.Tie as tie
 
 abbrev Inv-loop : tie.InvT-loop
-Inv-loop s offset bytes ends ids text sheet types ops names labels fits work₀ out₀ k row n₀ p₀ i₀ work out n p i =
-    Going (contextFrom sheet types ops bytes ends) (labelsOf (contextFrom sheet types ops bytes ends) text) offset s row out₀ k out n p i × (length work ≡ length work₀)
+Inv-loop s bytes ends ids text sheet types ops names labels fits work₀ out₀ row offset n₀ p₀ i₀ work out n p i =
+    Going (contextFrom sheet types ops bytes ends) (labelsOf (contextFrom sheet types ops bytes ends) text) offset s row out₀ n₀ out n p i × (length work ≡ length work₀)
 
 abbrev μ-loop : tie.MeasureT-loop
-μ-loop s offset bytes ends ids text sheet types ops names labels fits work₀ out₀ k row n₀ p₀ i₀ work out n p i =
+μ-loop s bytes ends ids text sheet types ops names labels fits work₀ out₀ row offset n₀ p₀ i₀ work out n p i =
     8 - i
 
 loop-holds : tie.Need-loop-holds Inv-loop μ-loop

@@ -9,6 +9,7 @@ ghost use Rattle.strings.specs.Keys.{TextsIndexed};
 ghost use Rattle.assemble.specs.Contexts.{labelsOf, LabelsKnown};
 ghost use Rattle.spec_inputs.specs.Context.{contextFrom};
 ghost use Rattle.assemble.specs.Bodies.{BytesPut};
+use crate::instruction::Span;
 use crate::operands::Place;
 use hasm_labels::label_entry::Slot;
 
@@ -45,8 +46,7 @@ pub fn put_instructions(
     while at < text.len() {
         let end = hasm_read::lines::line_end(text, at);
         let p = crate::instruction::put_line(
-            at,
-            end,
+            Span { at, end },
             Place { offset, k },
             bytes,
             ends,

@@ -28,6 +28,12 @@ pub struct Progress {
     pub operand: usize,
 }
 
+// A line by where it starts in the text, and where it ends.
+pub struct Span {
+    pub at: usize,
+    pub end: usize,
+}
+
 // The opcode that was found. Names that the sheet lacks are refused before.
 fn opcode_in(f: Found) -> usize
     ensures { λ r. ⌜ ((x : searched.Found) → f ≡ foundOf x → r ≡ foundIn x) ⌝ }
@@ -113,10 +119,9 @@ pub fn put_instruction(
     }
 }
 
-// Writes the line from `at` to its end, if it is an instruction.
+// Writes a line, if it is an instruction.
 pub fn put_line(
-    at: usize,
-    end: usize,
+    span: Span,
     place: Place,
     bytes: &[u8],
     ends: &[u32],
@@ -132,11 +137,11 @@ pub fn put_line(
     out: &mut [u8],
 ) -> Progress
     requires { ⌜ TextsIndexed (now bytes) (now ends) (now ids) × (lineLimit ≤ length (now work)) ⌝ }
-    requires { ⌜ LineAt (now text) at end (place .offset) × LabelsKnown (now text) (now sheet) (now types) (now ops) (now names) (now labels) fits ⌝ }
-    ensures { λ r. ⌜ ((out₀ : List ℕ) (n : ℕ) → Going (contextFrom (now (sheet .entry)) (now (types .entry)) (now (ops .entry)) (now (bytes .entry)) (now (ends .entry))) (labelsOf (contextFrom (now (sheet .entry)) (now (types .entry)) (now (ops .entry)) (now (bytes .entry)) (now (ends .entry))) (now (text .entry))) (now (text .entry)) out₀ (now (out .entry)) (place .k) at n (place .offset) → Turned (contextFrom (now (sheet .entry)) (now (types .entry)) (now (ops .entry)) (now (bytes .entry)) (now (ends .entry))) (labelsOf (contextFrom (now (sheet .entry)) (now (types .entry)) (now (ops .entry)) (now (bytes .entry)) (now (ends .entry))) (now (text .entry))) (now (text .entry)) out₀ (now (out .exit)) (end + 1) n r) ⌝ }
+    requires { ⌜ LineAt (now text) (span .at) (span .end) (place .offset) × LabelsKnown (now text) (now sheet) (now types) (now ops) (now names) (now labels) fits ⌝ }
+    ensures { λ r. ⌜ ((out₀ : List ℕ) (n : ℕ) → Going (contextFrom (now (sheet .entry)) (now (types .entry)) (now (ops .entry)) (now (bytes .entry)) (now (ends .entry))) (labelsOf (contextFrom (now (sheet .entry)) (now (types .entry)) (now (ops .entry)) (now (bytes .entry)) (now (ends .entry))) (now (text .entry))) (now (text .entry)) out₀ (now (out .entry)) (place .k) (span .at) n (place .offset) → Turned (contextFrom (now (sheet .entry)) (now (types .entry)) (now (ops .entry)) (now (bytes .entry)) (now (ends .entry))) (labelsOf (contextFrom (now (sheet .entry)) (now (types .entry)) (now (ops .entry)) (now (bytes .entry)) (now (ends .entry))) (now (text .entry))) (now (text .entry)) out₀ (now (out .exit)) (span .end + 1) n r) ⌝ }
     ensures { λ r. ⌜ r .offset ≤ place .offset + 65 ⌝ }
 {
-    let line = hasm_read::lines::line_of(text, at, end);
+    let line = hasm_read::lines::line_of(text, span.at, span.end);
     let statement = hasm_read::statement::read_statement(line, sheet, ops, names);
     match statement {
         Statement::Nothing => Progress {

@@ -6,7 +6,7 @@ use Prim.Native.Nat.{ℕ, _+_}
 use lib.ListN.{length}
 use Rattle.lists.specs.Found.{Found}
 use Rattle.lists.specs.Write.{Put}
-use Rattle.spec_body.specs.Record.{lengthOf}
+use Rattle.spec_sheet.specs.Row.{lengthOf}
 use Rattle.spec_inputs.specs.Context.{Context}
 use Rattle.spec_hasm.specs.Split.{instructionName, instructionOperands}
 use Rattle.spec_hasm.specs.Line.{opcodeNamed}

@@ -104,7 +104,7 @@ pub fn put_instruction(
     match o {
         Operands::Written(next) => Progress {
             k: next,
-            offset: offset + decode::record::instruction_length(row),
+            offset: offset + sheet::row::instruction_length(row),
             stopped: false,
             number: 0,
             operand: 0,

@@ -7,7 +7,8 @@ use native.Mathlib.Omega.{arith}
 use lib.ListN.{length, take, drop, getD, length-append}
 use lib.Seq.{take-at, drop-drop, drop-at}
 use borrow.Author.Tests.{le-leb}
-use Rattle.spec_body.specs.Record.{lengthOf, recordOf, join}
+use Rattle.spec_sheet.specs.Row.{lengthOf}
+use Rattle.spec_body.specs.Record.{recordOf, join}
 use Rattle.spec_body.specs.Decode.{Decoded, prepend, rowAt, decodeFrom, decodeBody}
 use Rattle.spec_body.specs.Decode.Decoded.{decoded, beyond, cut}
 use Rattle.spec_body.proofs.DecodeLaws.{length-record, at-end, at-beyond, at-cut, at-more}

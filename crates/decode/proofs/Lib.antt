@@ -1,5 +1,4 @@
 pub mod ValueLaws
-pub mod RowLaws
 pub mod PairLaws
 pub mod OperandLoop
 pub mod TableLaws

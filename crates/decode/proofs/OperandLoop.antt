@@ -8,9 +8,10 @@ use lib.Seq.{paste, paste-zero, length-paste}
 use Rattle.lists.specs.Scan.{part}
 use Rattle.spec_numbers.specs.LittleEndian.{le}
 use Rattle.spec_sheet.specs.Types.{widthOf, kindOf}
-use Rattle.spec_body.specs.Record.{sumBy, pairs, totalWidth}
+use Rattle.spec_sheet.specs.Row.{sumBy, totalWidth}
+use Rattle.spec_body.specs.Record.{pairs}
 use Rattle.spec_body.proofs.DecodeLaws.{length-pairs}
-use Rattle.decode.proofs.RowLaws.{sum-more}
+use Rattle.sheet.proofs.RowLaws.{sum-more}
 use Rattle.decode.proofs.PairLaws.{pairs-kind, pairs-bits, two-more}
 
 -- i operands are written, and the next one is at p

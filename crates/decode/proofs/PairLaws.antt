@@ -9,7 +9,8 @@ use lib.Seq.{paste, paste-zero, paste-suc, take-paste, drop-paste, take-add, dro
 use Rattle.lists.specs.Scan.{part}
 use Rattle.spec_numbers.specs.LittleEndian.{le}
 use Rattle.spec_sheet.specs.Types.{widthOf, kindOf}
-use Rattle.spec_body.specs.Record.{sumBy, pairs, recordOf, totalWidth}
+use Rattle.spec_sheet.specs.Row.{sumBy, totalWidth}
+use Rattle.spec_body.specs.Record.{pairs, recordOf}
 use Rattle.spec_body.proofs.DecodeLaws.{length-record}
 use Rattle.decode.specs.Tables.{headRow}
 

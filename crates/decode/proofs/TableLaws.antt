@@ -5,10 +5,10 @@ use Prim.Native.Nat.{ℕ, _+_, _≤_, _<_}
 use native.Mathlib.Omega.{arith}
 use lib.ListN.{length, getD, set, replicate, length-set, getD-replicate, List·getD-eq-default}
 use lib.Seq.{getD-set-same, getD-set-other}
-use borrow.Author.Tests.{ne-eqb}
 use Rattle.lists.proofs.Tests.{by-leb, by-eqb}
 use Rattle.spec_sheet.specs.Types.{widthOf, widths, kindOf, kinds}
-use Rattle.spec_body.specs.Record.{sumBy, oneFor, lengthOf, countOf}
+use Rattle.spec_sheet.specs.Row.{sumBy, lengthOf, countOf}
+use Rattle.sheet.proofs.RowLaws.{one-most}
 use Rattle.decode.specs.Tables.{codeRow, CodeRows, headRow, HeadRows}
 
 -- n rows are made, and those behind them are as they were
@@ -50,9 +50,6 @@ pub heads-made : (types : List (List ℕ)) (last : ℕ) (rows₀ rows : List (Li
 heads-made types last rows₀ rows n g h o l k = g .made o (h o l k)
 
 -- a row has no more operands than codes
-one-most : (c : ℕ) → oneFor c ≤ 1
-one-most c = by-eqb c 0 (λ q. rw q (omega arith)) (λ q. rw (ne-eqb c 0 q) (omega arith))
-
 pub count-most : (row : List ℕ) → countOf row ≤ length row
 unfolding sumBy
 count-most [] = omega arith

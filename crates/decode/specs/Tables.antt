@@ -4,7 +4,7 @@ use mathlib.Core.Path.{_≡_}
 use mathlib.Core.List.{List, [], _∷_}
 use lib.ListN.{getD}
 use Rattle.spec_sheet.specs.Types.{widthOf, kindOf}
-use Rattle.spec_body.specs.Record.{lengthOf, countOf}
+use Rattle.spec_sheet.specs.Row.{lengthOf, countOf}
 
 -- a type code's width and kind
 abbrev pub codeRow : ℕ → List ℕ

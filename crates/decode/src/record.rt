@@ -4,7 +4,8 @@ ghost use Prim.Native.Nat.{_+_, _≤_};
 ghost use lib.ListN.{length, set};
 ghost use lib.Seq.{paste};
 ghost use Rattle.spec_sheet.specs.Types.{widthOf};
-ghost use Rattle.spec_body.specs.Record.{lengthOf, countOf, pairs, recordOf};
+ghost use Rattle.spec_sheet.specs.Row.{lengthOf};
+ghost use Rattle.spec_body.specs.Record.{pairs, recordOf};
 ghost use Rattle.decode.specs.Value.{operandAt};
 ghost use Rattle.decode.specs.Tables.{CodeRows, headRow};
 use crate::operand_value::Operand;
@@ -15,34 +16,6 @@ fn wide(b: u8) -> u64
     ensures { λ r. ⌜ r ≡ b ⌝ }
 {
     b as u64
-}
-
-// The length of an instruction whose operands have the types of the row.
-pub fn instruction_length(row: [u8; 8]) -> usize
-    ensures { λ r. ⌜ (r ≡ lengthOf row) × (r ≤ 65) ⌝ }
-{
-    let mut n: usize = 1;
-    let mut i: usize = 0;
-    while i < 8 {
-        n += sheet::operand_types::width(row[i]);
-        i += 1;
-    }
-    n
-}
-
-// How many operands it has.
-pub fn operand_count(row: [u8; 8]) -> u64
-    ensures { λ r. ⌜ r ≡ countOf row ⌝ }
-{
-    let mut n: u64 = 0;
-    let mut i: usize = 0;
-    while i < 8 {
-        if row[i] != 0 {
-            n += 1;
-        }
-        i += 1;
-    }
-    n
 }
 
 // Writes two words.

@@ -54,8 +54,8 @@ pub fn kind_at(codes: &[[u8; 2]; 256], code: u8) -> u8
 fn head_row(row: [u8; 8]) -> [u8; 2]
     ensures { λ r. ⌜ r ≡ headRow row ⌝ }
 {
-    let length = crate::record::instruction_length(row) as u8;
-    let count = crate::record::operand_count(row) as u8;
+    let length = sheet::row::instruction_length(row) as u8;
+    let count = sheet::row::operand_count(row) as u8;
     [length, count]
 }
 

@@ -14,7 +14,7 @@ use Rattle.lists.specs.Scan.{all}
 use Rattle.lists.proofs.Tests.{by-test, by-eqb, both-left, both-right, both-yes}
 use Rattle.spec_numbers.specs.LittleEndian.{leBytes}
 use Rattle.spec_sheet.specs.Types.{widthOf, kindOf}
-use Rattle.spec_body.specs.Record.{oneFor, countOf}
+use Rattle.spec_sheet.specs.Row.{oneFor, countOf}
 use Rattle.spec_body.specs.Encode.{goodPair, goodPairs, goodShape, prependBytes, encodeOperands, withOperands, Encoded, appendTo, encodeRecord}
 use Rattle.spec_body.specs.Encode.Operands.{bytes}
 use Rattle.spec_body.proofs.OperandLaws.{typed-pair, kept}

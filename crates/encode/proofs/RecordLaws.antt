@@ -10,7 +10,7 @@ use Rattle.lists.specs.Write.{Put}
 use Rattle.lists.proofs.Writes.{_then_}
 use Rattle.lists.proofs.Tests.{both-left}
 use Rattle.lists.proofs.Parts.{part-at, part-length}
-use Rattle.spec_body.specs.Record.{countOf}
+use Rattle.spec_sheet.specs.Row.{countOf}
 use Rattle.spec_body.specs.Encode.{Encoded, goodShape, encodeOperands, withOperands, encodeRecord}
 use Rattle.encode.specs.Ahead.{recordAt, pairsAt, CanonicalPut}
 use Rattle.encode.specs.Written.{Turn}

@@ -1,17 +1,14 @@
--- The pairs of a record and the operands of a row, one after the other. Assumes nothing.
-use mathlib.Core.Path.{_≡_, refl, ap, _∙_}
+-- The pairs of a record, one after the other. Assumes nothing.
+use mathlib.Core.Path.{_≡_, ap, _∙_}
 use mathlib.Core.Bool.{Bool, true, false}
-use mathlib.Core.List.{List, []}
-use Prim.Native.Nat.{ℕ, zero, suc, _+_, _-_, _*_, _≤_, _<_}
-use native.Mathlib.Numerals.{add-one}
+use mathlib.Core.List.{List}
+use Prim.Native.Nat.{ℕ, suc, _+_, _-_, _*_, _<_}
 use native.Mathlib.Omega.{arith}
 use lib.Dec.{eqb}
-use lib.ListN.{length, drop, getD}
-use lib.Seq.{drop-drop, drop-cons, getD-drop}
+use lib.ListN.{drop, getD}
+use lib.Seq.{drop-drop, getD-drop}
 use Rattle.lists.specs.Choice.{pick, both}
 use Rattle.lists.proofs.Parts.{part-at}
-use Rattle.lists.proofs.Tests.{by-test}
-use Rattle.spec_body.specs.Record.{sumBy, oneFor, countOf}
 use Rattle.spec_body.specs.Encode.{goodPair, goodPairs}
 use Rattle.encode.specs.Ahead.{recordAt, pairsAt}
 
@@ -44,16 +41,3 @@ module _ (words : List ℕ) (at i p left : ℕ) (e : p ≡ at + 4 + 2 * i) (h : 
 
   pub pair-bad : slot left (getD words p 0) (getD words (p + 1) 0) ≡ false → goodPairs (8 - i) left (drop (2 * i) (pairsAt words at)) ≡ false
   pair-bad g = one-pair ∙ rw g
-
--- a code counts at most once
-pub one-most : (c : ℕ) → oneFor c ≤ 1
-one-most c = by-test (eqb c 0) (λ e. rw e (omega arith)) (λ e. rw e (omega arith))
-
--- one operand more is counted
-pub count-more : (row : List ℕ) (i : ℕ) → i < length row → countOf (drop i row) ≡ oneFor (getD row i 0) + countOf (drop (i + 1) row)
-unfolding sumBy
-count-more row i h = rw (add-one i, drop-cons row i 0 h)
-
-pub count-none : countOf [] ≡ 0
-unfolding sumBy
-count-none = refl

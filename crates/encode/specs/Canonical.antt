@@ -10,7 +10,7 @@ use Rattle.lists.specs.Choice.{pick, both}
 use Rattle.lists.specs.Scan.{all}
 use Rattle.spec_numbers.specs.LittleEndian.{leBytes}
 use Rattle.spec_sheet.specs.Types.{widths, widthOf, kinds, kindOf}
-use Rattle.spec_body.specs.Record.{oneFor, countOf}
+use Rattle.spec_sheet.specs.Row.{oneFor, countOf}
 
 -- by type code: the kinds, the largest bits and the bytes
 abbrev pub codeTable : List (List ℕ)

@@ -9,7 +9,6 @@ ghost use Rattle.lists.specs.Choice.{pick, both};
 ghost use Rattle.lists.specs.Write.{put};
 ghost use Rattle.spec_numbers.specs.LittleEndian.{leBytes};
 ghost use Rattle.spec_sheet.specs.Types.{widthOf};
-ghost use Rattle.spec_body.specs.Record.{oneFor, countOf};
 ghost use Rattle.encode.specs.Ahead.{recordAt, pairsAt, Ahead, CanonicalPut};
 ghost use Rattle.encode.specs.Canonical.{codeTable, inOrder, canonicalCount, Counted, canonicalPair, canonicalPairs, canonicalBytes, allZero, canonicalRecord};
 
@@ -45,32 +44,13 @@ fn one_if(used: bool) -> u64
     if used { 1 } else { 0 }
 }
 
-fn one_for(code: u8) -> u64
-    ensures { λ r. ⌜ r ≡ oneFor code ⌝ }
-{
-    if code == 0 { 0 } else { 1 }
-}
-
-// How many operands a row of type codes has.
-pub fn operand_count(row: [u8; 8]) -> u64
-    ensures { λ r. ⌜ r ≡ countOf row ⌝ }
-{
-    let mut n: u64 = 0;
-    let mut i: usize = 0;
-    while i < 8 {
-        n += one_for(row[i]);
-        i += 1;
-    }
-    n
-}
-
 // Whether the first `count` codes of a row are types and the others none.
 fn in_order(row: [u8; 8], count: u64) -> bool
     ensures { λ r. ⌜ r ≡ inOrder row count ⌝ }
 {
     let mut j: usize = 0;
     while j < 8 {
-        if one_for(row[j]) != one_if((j as u64) < count) {
+        if sheet::row::one_for(row[j]) != one_if((j as u64) < count) {
             return false;
         }
         j += 1;
@@ -82,7 +62,7 @@ fn in_order(row: [u8; 8], count: u64) -> bool
 fn canonical_count(row: [u8; 8]) -> u8
     ensures { λ r. ⌜ r ≡ canonicalCount row ⌝ }
 {
-    let n = operand_count(row);
+    let n = sheet::row::operand_count(row);
     if 4 < n {
         return 9;
     }

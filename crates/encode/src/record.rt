@@ -32,7 +32,7 @@ fn encode_any(
         return EncodeAnswer::Beyond(i);
     }
     let row = types[opcode as usize];
-    if words[at + 3] != crate::canonical::operand_count(row) {
+    if words[at + 3] != sheet::row::operand_count(row) {
         return EncodeAnswer::Count(i);
     }
     let k = slices::write::put_byte(out, from, opcode as u8);

@@ -35,8 +35,8 @@ pub fn read_name(
     let row = types[opcode];
     let a = hasm_read::white_space::skip(s, k, true);
     let given = hasm_read::commas::count_operands(&s[a..]);
-    if given as u64 != decode::record::operand_count(row) {
+    if given as u64 != sheet::row::operand_count(row) {
         return Named::Count;
     }
-    Named::Size(decode::record::instruction_length(row))
+    Named::Size(sheet::row::instruction_length(row))
 }

@@ -7,7 +7,8 @@ use native.Mathlib.Omega.{arith}
 use lib.ListN.{length, getD}
 use borrow.Author.Tests.{eq-eqb, ne-eqb}
 use Rattle.lists.specs.Choice.{pick}
-use Rattle.spec_body.specs.Record.{lengthOf, pairs, recordOf}
+use Rattle.spec_sheet.specs.Row.{lengthOf}
+use Rattle.spec_body.specs.Record.{pairs, recordOf}
 use Rattle.spec_body.specs.Decode.{rowAt}
 use Rattle.spec_inputs.specs.Context.{Context, nameOf, isJump}
 use Rattle.spec_listing.specs.Labels.{endsFlow, targets, labelsOf}

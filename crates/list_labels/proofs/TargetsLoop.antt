@@ -9,8 +9,9 @@ use lib.Seq.{drop-cons}
 use Rattle.lists.specs.Scan.{part}
 use Rattle.spec_numbers.specs.LittleEndian.{le}
 use Rattle.spec_sheet.specs.Types.{widthOf, kindOf}
-use Rattle.spec_body.specs.Record.{sumBy, lengthOf, pairs, totalWidth}
-use Rattle.decode.proofs.RowLaws.{sum-more, sum-all, sum-front}
+use Rattle.spec_sheet.specs.Row.{sumBy, lengthOf, totalWidth}
+use Rattle.spec_body.specs.Record.{pairs}
+use Rattle.sheet.proofs.RowLaws.{sum-more, sum-all, sum-front}
 use Rattle.spec_listing.specs.Labels.{targets}
 use Rattle.list_labels.specs.Notes.{Notes, noteAll}
 use Rattle.list_labels.specs.InstructionNotes.{targetIn}

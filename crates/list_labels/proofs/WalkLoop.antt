@@ -5,7 +5,8 @@ use Prim.Native.Nat.{ℕ, suc, _+_, _-_, _≤_, _<_}
 use native.Mathlib.Nat.{sub-zero}
 use native.Mathlib.Omega.{arith}
 use lib.ListN.{length, getD}
-use Rattle.spec_body.specs.Record.{lengthOf, recordOf}
+use Rattle.spec_sheet.specs.Row.{lengthOf}
+use Rattle.spec_body.specs.Record.{recordOf}
 use Rattle.spec_body.specs.Decode.{Decoded, prepend, rowAt, decodeFrom, decodeBody}
 use Rattle.spec_body.specs.Decode.Decoded.{decoded, beyond, cut}
 use Rattle.spec_body.proofs.DecodeLaws.{at-end, at-beyond, at-cut, at-more}

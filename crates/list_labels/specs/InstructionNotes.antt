@@ -5,7 +5,8 @@ use lib.Dec.{eqb, ltb}
 use Rattle.spec_sheet.specs.Line.{jumpMark, nameStart, nameSize}
 use Rattle.lists.specs.Choice.{pick}
 use Rattle.spec_sheet.specs.Types.{familyOf, addrFamily}
-use Rattle.spec_body.specs.Record.{lengthOf, pairs}
+use Rattle.spec_sheet.specs.Row.{lengthOf}
+use Rattle.spec_body.specs.Record.{pairs}
 use Rattle.spec_listing.specs.Operand.{targetOf}
 use Rattle.spec_listing.specs.Labels.{endsFlow, targets}
 use Rattle.list_labels.specs.FlowNames.{nameShown}

@@ -36,7 +36,7 @@ fn walk(
             return Walked::Beyond(at);
         }
         let row = types[op];
-        let size = decode::record::instruction_length(row);
+        let size = sheet::row::instruction_length(row);
         if s.len() - at < size {
             return Walked::Cut(at);
         }

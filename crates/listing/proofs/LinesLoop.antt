@@ -16,7 +16,8 @@ use Rattle.lists.proofs.Writes.{_then_, same-piece}
 use Rattle.lists.proofs.LeftToWrite.{Left, left-all, left-turn, left-none}
 use Rattle.spec_numbers.specs.Print.{decimal}
 use Rattle.spec_numbers.proofs.PrintLaws.{decimal-length}
-use Rattle.spec_body.specs.Record.{lengthOf, recordOf, offsetOf}
+use Rattle.spec_sheet.specs.Row.{lengthOf}
+use Rattle.spec_body.specs.Record.{recordOf, offsetOf}
 use Rattle.spec_body.specs.Decode.{rowAt, decodeBody}
 use Rattle.spec_body.proofs.DecodeLaws.{Decoding, body-stands}
 use Rattle.spec_body.proofs.DecodeLaws.Decoding.{ended, more}

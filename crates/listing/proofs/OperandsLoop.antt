@@ -19,7 +19,8 @@ use Rattle.lists.proofs.LeftToWrite.{Left, left-all, left-turn, left-none}
 use Rattle.spec_numbers.specs.LittleEndian.{le}
 use Rattle.spec_numbers.proofs.ByteLaws.{le-bound}
 use Rattle.spec_sheet.specs.Types.{widthOf}
-use Rattle.spec_body.specs.Record.{sumBy, lengthOf, pairs, totalWidth}
+use Rattle.spec_sheet.specs.Row.{sumBy, lengthOf, totalWidth}
+use Rattle.spec_body.specs.Record.{pairs}
 use Rattle.spec_listing.specs.Operand.{operandText, operandTexts}
 
 -- the bits of an operand do not pass its width

@@ -76,7 +76,7 @@ pub fn list_lines(
     while at < s.len() {
         let op = s[at] as usize;
         let row = types[op];
-        let size = decode::record::instruction_length(row);
+        let size = sheet::row::instruction_length(row);
         let a = put_flagged_label(out, k, options.show_labels, flags, indent, at);
         let b = put_bytes(out, a, indent);
         let c = crate::instruction::put_instruction(

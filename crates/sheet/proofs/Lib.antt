@@ -7,3 +7,4 @@ pub mod StoreLaws
 pub mod OpsLoop
 pub mod SheetAnswers
 pub mod NameWalk
+pub mod RowLaws

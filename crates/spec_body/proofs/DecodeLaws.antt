@@ -7,7 +7,8 @@ use borrow.Author.Tests.{lt-ltb, le-ltb, le-leb, lt-leb}
 use lib.ListN.{length, getD, length-append}
 use Rattle.lists.proofs.Tests.{by-leb}
 use Rattle.spec_sheet.specs.Types.{widthOf}
-use Rattle.spec_body.specs.Record.{lengthOf, recordOf, pairs, join}
+use Rattle.spec_sheet.specs.Row.{lengthOf}
+use Rattle.spec_body.specs.Record.{recordOf, pairs, join}
 use Rattle.spec_body.specs.Decode.{Decoded, prepend, rowAt, decodeFrom, decodeBody}
 use Rattle.spec_body.specs.Decode.Decoded.{decoded, beyond, cut}
 

@@ -13,7 +13,8 @@ use Rattle.spec_numbers.specs.LittleEndian.{leBytes}
 use Rattle.spec_body.specs.Encode.{Fitted}
 use Rattle.spec_body.specs.Encode.Fitted.{fits, noFit}
 use Rattle.spec_sheet.specs.Types.{widthOf}
-use Rattle.spec_body.specs.Record.{countOf, recordWords}
+use Rattle.spec_sheet.specs.Row.{countOf}
+use Rattle.spec_body.specs.Record.{recordWords}
 use Rattle.spec_body.specs.Encode.{goodPair, goodPairs, goodShape, encodeOperand, Operands, prependBytes, operandBytes, encodeOperands, Encoded, appendTo, withOperands, encodeRecord, encodeFrom, encodeRecords}
 use Rattle.spec_body.specs.Encode.Operands.{bytes, misfit}
 use Rattle.spec_body.specs.Encode.Encoded.{encoded, refused}

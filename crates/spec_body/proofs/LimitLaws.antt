@@ -12,7 +12,8 @@ use Rattle.lists.proofs.Tests.{by-leb, by-eqb}
 use Rattle.spec_numbers.specs.LittleEndian.{leBytes}
 use Rattle.spec_numbers.proofs.ByteLaws.{leBytes-bytes}
 use Rattle.spec_sheet.specs.Types.{widths, kinds, widthOf, kindOf}
-use Rattle.spec_body.specs.Record.{sumBy, lengthOf, countOf, pairs, recordOf, join}
+use Rattle.spec_sheet.specs.Row.{sumBy, lengthOf, countOf}
+use Rattle.spec_body.specs.Record.{pairs, recordOf, join}
 use Rattle.spec_body.specs.Decode.{decodeBody, rowAt}
 use Rattle.spec_body.specs.Decode.Decoded.{decoded}
 use Rattle.spec_body.specs.Starts.{spans}

@@ -18,7 +18,8 @@ use Rattle.spec_numbers.proofs.ByteLaws.{le-leBytes, length-leBytes}
 use Rattle.spec_sheet.specs.Types.{widthOf, kindOf}
 use Rattle.spec_sheet.proofs.OpLaws.{TypeCodes}
 use Rattle.spec_sheet.proofs.OpLaws.TypeCodes.{none, one}
-use Rattle.spec_body.specs.Record.{sumBy, lengthOf, pairs, recordOf, join, recordWords, totalWidth}
+use Rattle.spec_sheet.specs.Row.{sumBy, lengthOf, totalWidth}
+use Rattle.spec_body.specs.Record.{pairs, recordOf, join, recordWords}
 use Rattle.spec_body.specs.Decode.{decodeBody, rowAt}
 use Rattle.spec_body.specs.Decode.Decoded.{decoded}
 use Rattle.spec_body.specs.Encode.{kindWidths, goodPairs, goodShape, encodeOperand, encodeOperands, encodeRecords}

@@ -17,7 +17,8 @@ use Rattle.spec_numbers.proofs.ByteLaws.{leBytes-le, le-bound}
 use Rattle.spec_sheet.specs.Types.{widthOf, kindOf}
 use Rattle.spec_sheet.proofs.OpLaws.{TypeCodes}
 use Rattle.spec_sheet.proofs.OpLaws.TypeCodes.{none, one}
-use Rattle.spec_body.specs.Record.{sumBy, lengthOf, countOf, pairs, recordOf, join, totalWidth}
+use Rattle.spec_sheet.specs.Row.{sumBy, lengthOf, countOf, totalWidth}
+use Rattle.spec_body.specs.Record.{pairs, recordOf, join}
 use Rattle.spec_body.specs.Decode.{decodeBody, rowAt}
 use Rattle.spec_body.specs.Decode.Decoded.{decoded}
 use Rattle.spec_body.specs.Encode.{goodPair, goodPairs, goodShape, prependBytes, encodeOperands, encodeRecords}

@@ -7,7 +7,7 @@ use lib.ListN.{length, getD, replicate, length-append, length-replicate}
 use Rattle.spec_sheet.specs.Types.{widthOf}
 use Rattle.spec_sheet.proofs.OpLaws.{TypeCodes}
 use Rattle.spec_sheet.proofs.OpLaws.TypeCodes.{none, one}
-use Rattle.spec_body.specs.Record.{sumBy, countOf, oneFor, totalWidth}
+use Rattle.spec_sheet.specs.Row.{sumBy, countOf, oneFor, totalWidth}
 use Rattle.spec_body.proofs.OperandLaws.{no-zero}
 
 -- eight codes: those of at most eight types, and zeros behind them

@@ -5,7 +5,8 @@ use Prim.Native.Nat.{ℕ, zero, suc, _+_, _≤_, _<_}
 use native.Mathlib.Omega.{arith}
 use lib.ListN.{length, getD}
 use Rattle.lists.proofs.Tests.{by-leb}
-use Rattle.spec_body.specs.Record.{totalWidth, offsetOf, spanOf}
+use Rattle.spec_sheet.specs.Row.{totalWidth}
+use Rattle.spec_body.specs.Record.{offsetOf, spanOf}
 use Rattle.spec_body.specs.Decode.{decodeBody, rowAt}
 use Rattle.spec_body.specs.Decode.Decoded.{decoded}
 use Rattle.spec_body.specs.Starts.{Chain, spans}

@@ -4,7 +4,8 @@ use Prim.Native.Nat.{ℕ, zero, suc, _+_}
 use lib.Dec.{leb, ltb}
 use lib.ListN.{length, getD}
 use Rattle.lists.specs.Choice.{pick}
-use Rattle.spec_body.specs.Record.{lengthOf, recordOf}
+use Rattle.spec_sheet.specs.Row.{lengthOf}
+use Rattle.spec_body.specs.Record.{recordOf}
 
 -- the records of a body, or where it is refused: 13 "opcode beyond the sheet's largest", 14 "bytes end inside an instruction"
 pub data Decoded : Type 0 where

@@ -8,7 +8,8 @@ use Rattle.lists.specs.Choice.{pick, both, either}
 use Rattle.spec_numbers.specs.LittleEndian.{leBytes}
 use Rattle.spec_numbers.specs.TwosComplement.{extend8}
 use Rattle.spec_sheet.specs.Types.{widthOf, familyOf, stringFamily, addr8, double}
-use Rattle.spec_body.specs.Record.{countOf, opcodeOf, operandsOf, pairsOf, recordWords}
+use Rattle.spec_sheet.specs.Row.{countOf}
+use Rattle.spec_body.specs.Record.{opcodeOf, operandsOf, pairsOf, recordWords}
 
 -- the bytes of a kind: U8, U16, U32, I8, I32, F64
 abbrev pub kindWidths : List ℕ

@@ -7,7 +7,8 @@ use Rattle.lists.specs.Choice.{pick}
 use Rattle.spec_body.specs.Encode.{Fitted}
 use Rattle.spec_body.specs.Encode.Fitted.{fits, noFit}
 use Rattle.spec_sheet.specs.Types.{kindOf}
-use Rattle.spec_body.specs.Record.{lengthOf, recordWords, opcodeOf, operandsOf, pairsOf}
+use Rattle.spec_sheet.specs.Row.{lengthOf}
+use Rattle.spec_body.specs.Record.{recordWords, opcodeOf, operandsOf, pairsOf}
 use Rattle.spec_body.specs.Encode.{encodeOperand}
 
 -- the number that an operand was written as

@@ -1,31 +1,11 @@
 -- The record of a decoded instruction (document 01, 'Decoder and encoder'). Assumes nothing.
 use mathlib.Core.List.{List, [], _∷_, _++_}
 use Prim.Native.Nat.{ℕ, _+_}
-use lib.Dec.{eqb}
 use lib.ListN.{getD, drop}
-use Rattle.lists.specs.Choice.{pick}
 use Rattle.lists.specs.Scan.{part}
 use Rattle.spec_numbers.specs.LittleEndian.{le}
 use Rattle.spec_sheet.specs.Types.{widthOf, kindOf}
-
--- a sum over a list
-unfoldable pub sumBy : (ℕ → ℕ) → List ℕ → ℕ
-sumBy f [] = 0
-sumBy f (c ∷ cs) = f c + sumBy f cs
-
--- the bytes of the operands of a row of type codes, and of the whole instruction
-abbrev pub totalWidth : List ℕ → ℕ
-totalWidth row = sumBy widthOf row
-
-abbrev pub lengthOf : List ℕ → ℕ
-lengthOf row = 1 + totalWidth row
-
--- how many operands a row has
-abbrev pub oneFor : ℕ → ℕ
-oneFor c = pick (eqb c 0) 0 1
-
-abbrev pub countOf : List ℕ → ℕ
-countOf row = sumBy oneFor row
+use Rattle.spec_sheet.specs.Row.{lengthOf, countOf}
 
 -- "eight pairs of kind and bits; unused words 0", the first operand at p
 unfoldable pub pairs : List ℕ → List ℕ → ℕ → List ℕ

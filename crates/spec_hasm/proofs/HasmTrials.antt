@@ -14,7 +14,7 @@ use Rattle.spec_sheet.specs.Sheet.{fill, hasName, findName, isMissing, mayFollo
 use Rattle.spec_strings.specs.Utf8.{afterLead, afterNext, step, utf8From}
 use Rattle.spec_strings.specs.Table.{tooLarge, wellFormed, faultFrom, lookupFrom}
 use Rattle.spec_strings.specs.Escape.{meant, unescape}
-use Rattle.spec_body.specs.Record.{sumBy}
+use Rattle.spec_sheet.specs.Row.{sumBy}
 use Rattle.spec_answers.specs.Outcome.{Outcome, measured}
 use Rattle.spec_answers.specs.Outcome.Outcome.{result, refusedWith}
 use Rattle.spec_inputs.specs.Inputs.{unlessFault, underTable, underContext, underInputs}

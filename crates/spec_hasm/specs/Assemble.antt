@@ -10,7 +10,7 @@ use Rattle.lists.specs.Found.{Found}
 use Rattle.lists.specs.Found.Found.{found, missing}
 use Rattle.spec_numbers.specs.LittleEndian.{leBytes}
 use Rattle.spec_sheet.specs.Types.{widthOf}
-use Rattle.spec_body.specs.Record.{lengthOf, countOf}
+use Rattle.spec_sheet.specs.Row.{lengthOf, countOf}
 use Rattle.spec_inputs.specs.Context.{Context}
 use Rattle.limits.specs.Limits.{lineLimit}
 use Rattle.spec_hasm.specs.Text.{linesOf}

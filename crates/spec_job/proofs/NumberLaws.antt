@@ -14,7 +14,7 @@ use Rattle.spec_numbers.specs.Parse.Parsed.{is, bad}
 use Rattle.spec_numbers.specs.TwosComplement.{wrapSub}
 use Rattle.spec_numbers.specs.Double.{readDouble}
 use Rattle.spec_sheet.specs.Types.{familyOf, widthOf}
-use Rattle.spec_body.specs.Record.{countOf}
+use Rattle.spec_sheet.specs.Row.{countOf}
 use Rattle.spec_inputs.specs.Context.{Context}
 use Rattle.limits.specs.Limits.{lineLimit}
 use Rattle.spec_hasm.specs.Text.{linesOf}

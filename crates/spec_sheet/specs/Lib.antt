@@ -1,4 +1,5 @@
 pub mod Types
+pub mod Row
 pub mod Scan
 pub mod Line
 pub mod Sheet

@@ -14,7 +14,8 @@ use Rattle.spec_sheet.specs.Line.{withType, typesFrom, typesAt, headAt, lineTyp
 use Rattle.spec_sheet.specs.Sheet.{fill, hasName, findName, isMissing, mayFollow, accepted, onLine, opsFrom, sheetOps, sheetAt, endsAt, sheetOf, above}
 use Rattle.spec_strings.specs.Table.{lookupFrom, tooLarge, wellFormed, faultFrom}
 use Rattle.spec_strings.specs.Plain.{plainByte, plain}
-use Rattle.spec_body.specs.Record.{sumBy, pairs}
+use Rattle.spec_sheet.specs.Row.{sumBy}
+use Rattle.spec_body.specs.Record.{pairs}
 use Rattle.spec_body.specs.Decode.{prepend, decodeFrom}
 use Rattle.spec_inputs.specs.Context.{nameOf, isJump}
 use Rattle.spec_listing.specs.Operand.{distanceOf, targetOf, stringText, operandText, operandTexts}

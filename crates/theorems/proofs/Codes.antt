@@ -17,7 +17,8 @@ use Rattle.spec_sheet.specs.Sheet.SheetRead.{sheet}
 use Rattle.spec_sheet.proofs.NameTextLaws.{NameText}
 use Rattle.spec_sheet.proofs.OwnNameLaws.{sheet-no-name}
 use Rattle.spec_sheet.proofs.RowLaws.{info-rows-length}
-use Rattle.spec_body.specs.Record.{lengthOf, countOf, pairs, recordOf, totalWidth}
+use Rattle.spec_sheet.specs.Row.{lengthOf, countOf, totalWidth}
+use Rattle.spec_body.specs.Record.{pairs, recordOf}
 use Rattle.spec_body.specs.Decode.{rowAt}
 use Rattle.spec_body.proofs.DecodeLaws.{Decoding}
 use Rattle.spec_body.proofs.DecodeLaws.Decoding.{ended, more}

@@ -13,7 +13,8 @@ use Rattle.lists.proofs.Tests.{by-test}
 use Rattle.spec_numbers.specs.Print.{decimal}
 use Rattle.spec_sheet.specs.Sheet.{Sheet, sheetAt, typeRows}
 use Rattle.spec_sheet.specs.Sheet.SheetRead.{sheet}
-use Rattle.spec_body.specs.Record.{lengthOf, recordOf, offsetOf}
+use Rattle.spec_sheet.specs.Row.{lengthOf}
+use Rattle.spec_body.specs.Record.{recordOf, offsetOf}
 use Rattle.spec_body.specs.Decode.{rowAt}
 use Rattle.spec_body.proofs.DecodeLaws.{Decoding}
 use Rattle.spec_body.proofs.DecodeLaws.Decoding.{ended, more}

@@ -14,7 +14,8 @@ use Rattle.spec_numbers.specs.LittleEndian.{le, leBytes}
 use Rattle.spec_sheet.specs.Types.{familyOf, widthOf}
 use Rattle.spec_sheet.proofs.OpLaws.{TypeCodes}
 use Rattle.spec_sheet.proofs.OpLaws.TypeCodes.{none, one}
-use Rattle.spec_body.specs.Record.{sumBy, pairs, totalWidth}
+use Rattle.spec_sheet.specs.Row.{sumBy, totalWidth}
+use Rattle.spec_body.specs.Record.{pairs}
 use Rattle.spec_body.proofs.OperandLaws.{no-zero}
 use Rattle.spec_body.proofs.RowLaws.{GoodRow, good-widths}
 use Rattle.spec_body.proofs.ReencodeLaws.{part-add, part-back, part-below}

@@ -12,7 +12,8 @@ use Rattle.spec_sheet.specs.Types.{typeNames, typeCodeIn, typeCode, widthOf, ki
 use Rattle.spec_sheet.specs.Scan.{after, literalAt, isNameByte, numberRead, numberAt, keyedAt, mayBeName, nameAt, typeAt}
 use Rattle.spec_sheet.specs.Line.{withType, typesFrom, typesAt, headAt, lineTypes, lineHead, lineAt, typeRow, infoRow}
 use Rattle.spec_sheet.specs.Sheet.{fill, hasName, findName, isMissing, mayFollow, accepted, onLine, opsFrom, sheetOps, sheetAt, endsAt, sheetOf, above}
-use Rattle.spec_body.specs.Record.{sumBy, pairs, join}
+use Rattle.spec_sheet.specs.Row.{sumBy}
+use Rattle.spec_body.specs.Record.{pairs, join}
 use Rattle.spec_body.specs.Decode.{prepend, decodeFrom}
 use Rattle.spec_body.specs.Operation.{decodeOutcome, decode}
 use Rattle.spec_answers.specs.Outcome.{Outcome, measured}

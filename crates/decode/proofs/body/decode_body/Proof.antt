@@ -3,7 +3,7 @@ use Prim.Native.Nat.{_-_}
 use native.Mathlib.Omega.{arith}
 use lib.ListN.{length}
 use Rattle.spec_body.specs.Decode.{rowAt}
-use Rattle.spec_body.specs.Record.{lengthOf}
+use Rattle.spec_sheet.specs.Row.{lengthOf}
 use Rattle.decode.specs.Bodies.{bodyAnswer}
 use Rattle.decode.proofs.TableLaws.{length-in}
 use Rattle.decode.proofs.BodyLoop.{Going, start, ended, stopped, broken, turn, not-beyond, not-cut, all-written}

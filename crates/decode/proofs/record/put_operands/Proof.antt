@@ -9,7 +9,7 @@ use Rattle.decode.specs.Value.{operandAt, kindOfValue}
 use Rattle.decode.proofs.ValueLaws.{kind-back}
 use Rattle.decode.specs.declared.operand_value.Operand.{Operand}
 use Rattle.spec_sheet.proofs.TypeLaws.{kind-most}
-use Rattle.decode.proofs.RowLaws.{sum-more, sum-front}
+use Rattle.sheet.proofs.RowLaws.{sum-more, sum-front}
 use Rattle.decode.proofs.OperandLoop.{Going, start, kept-length, turn, ended}
 use borrow.Author.Needs.{needs}
 use Rattle.decode.proofs.record.put_operands.Statement.{statement}

@@ -1,7 +1,7 @@
 use mathlib.Core.Path.{sym, _∙_}
 use native.Mathlib.Omega.{arith}
 use borrow.Author.Tests.{lt-leb, le-leb}
-use Rattle.spec_body.specs.Record.{countOf}
+use Rattle.spec_sheet.specs.Row.{countOf}
 use Rattle.encode.specs.Canonical.{canonicalCount}
 use borrow.Author.Needs.{needs}
 use Rattle.encode.proofs.canonical.canonical_count.Statement.{statement}

@@ -1,6 +1,6 @@
 use borrow.Author.Tests.{ne-eqb}
-use Rattle.encode.proofs.canonical.one_for.Statement.{statement}
-use Rattle.encode.proofs.canonical.one_for.Tie as tie
+use Rattle.sheet.proofs.row.one_for.Statement.{statement}
+use Rattle.sheet.proofs.row.one_for.Tie as tie
 
 returns : tie.Need-returns
 returns c = rw (c .if1 .taken)

@@ -1,14 +1,14 @@
-use Rattle.decode.proofs.RowLaws.{sum-more, sum-all}
+use Rattle.sheet.proofs.RowLaws.{sum-more, sum-all}
 use Rattle.spec_sheet.proofs.TypeLaws.{width-most}
 use Rattle.spec_sheet.specs.Types.{widthOf}
-use Rattle.spec_body.specs.Record.{sumBy}
+use Rattle.spec_sheet.specs.Row.{sumBy}
 use lib.ListN.{length, getD, take}
 use native.Mathlib.Omega.{arith}
 use Prim.Native.Nat.{_+_, _-_, _*_, _≤_}
 use mathlib.Core.Path.{_≡_, refl, _∙_}
 use borrow.Author.Needs.{needs}
-use Rattle.decode.proofs.record.instruction_length.Statement.{statement}
-use Rattle.decode.proofs.record.instruction_length.Tie as tie
+use Rattle.sheet.proofs.row.instruction_length.Statement.{statement}
+use Rattle.sheet.proofs.row.instruction_length.Tie as tie
 
 abbrev Inv-loop : tie.InvT-loop
 Inv-loop row n₀ i₀ n i = (i ≤ 8) × (n ≤ 1 + 8 * i) × (n ≡ 1 + sumBy widthOf (take i row))

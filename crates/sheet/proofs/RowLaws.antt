@@ -1,4 +1,4 @@
--- Sums over the front of a row of type codes. Assumes nothing.
+-- Sums over a row of type codes. Assumes nothing.
 use mathlib.Core.Path.{_≡_, ap, sym}
 use mathlib.Core.List.{List, [], _∷_, _++_}
 use Prim.Native.Nat.{ℕ, zero, suc, _+_, _≤_, _<_}
@@ -7,7 +7,9 @@ use native.Mathlib.Numerals.{add-one}
 use native.Mathlib.Omega.{arith}
 use lib.ListN.{length, take, getD}
 use lib.Seq.{take-suc, take-all}
-use Rattle.spec_body.specs.Record.{sumBy}
+use lib.Dec.{eqb}
+use Rattle.lists.proofs.Tests.{by-test}
+use Rattle.spec_sheet.specs.Row.{sumBy, oneFor}
 
 pub sum-append : (g : ℕ → ℕ) (a b : List ℕ) → sumBy g (a ++ b) ≡ sumBy g a + sumBy g b
 unfolding sumBy
@@ -28,3 +30,7 @@ unfolding sumBy
 sum-front g row zero = omega arith
 sum-front g [] (suc i) = omega arith
 sum-front g (x ∷ row) (suc i) = omega (arith, sum-front g row i)
+
+-- a code counts at most once
+pub one-most : (c : ℕ) → oneFor c ≤ 1
+one-most c = by-test (eqb c 0) (λ e. rw e (omega arith)) (λ e. rw e (omega arith))

@@ -101,7 +101,11 @@ fn name_and_put(
     sheet::name_index::index_names(sheet, ops, &mut names);
     let n = hasm_labels::names_pass::read_names(text, sheet, types, ops, &names, labels, b"");
     match n {
-        Names::Good(count, _, _) => put_indexed(
+        Names::Good {
+            count,
+            has: _,
+            offset: _,
+        } => put_indexed(
             ids,
             sheet,
             types,

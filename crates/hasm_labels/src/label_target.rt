@@ -33,7 +33,12 @@ pub fn label_offset(
     }
     let mut none: [Slot; 0] = [];
     let read = crate::names_pass::read_names(text, sheet, types, ops, names, &mut none, t);
-    let Names::Good(_, has, offset) = read else {
+    let Names::Good {
+        count: _,
+        has,
+        offset,
+    } = read
+    else {
         return Found::Missing;
     };
     if has {

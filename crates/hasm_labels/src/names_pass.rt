@@ -11,7 +11,11 @@ use crate::label_entry::Slot;
 // How many labels are taken, whether one has the text that was asked for, and the offset of the last one; or the line of a
 // name that the sheet does not have (4), or of one that has too few or too many operands (5).
 pub enum Names {
-    Good(usize, bool, usize),
+    Good {
+        count: usize,
+        has: bool,
+        offset: usize,
+    },
     Unknown(usize),
     Count(usize),
 }
@@ -55,5 +59,9 @@ pub fn read_names(
         at = end + 1;
         n += 1;
     }
-    Names::Good(p.count, p.has, p.place)
+    Names::Good {
+        count: p.count,
+        has: p.has,
+        offset: p.place,
+    }
 }

@@ -3,7 +3,6 @@ use mathlib.Core.Path.{_≡_, refl, ap, sym, _∙_}
 use mathlib.Core.Bool.{true, false}
 use mathlib.Core.List.{List, [], _∷_}
 use Prim.Native.Nat.{ℕ, zero, suc, _+_, _*_, _/_, _%_, _^_, _≤_, _<_, max}
-use native.Mathlib.Numerals.{add-one}
 use native.Mathlib.Omega.{arith}
 use lib.Bits.{bitOr, or-step}
 use lib.Pow.{shr-shr, shl-shr, shl-exact}
@@ -15,20 +14,11 @@ use Rattle.lists.specs.Found.Found.{missing}
 use Rattle.spec_sheet.specs.Sheet.{noInfoRows, hasName, findName}
 use Rattle.spec_sheet.proofs.NameLaws.{find-cons-next}
 use lib.Dec.{ltb}
-use lib.ListN.{length, take, drop, getD, set, replicate, drop-of-length-le, length-set, length-take, length-replicate, getD-replicate, List·getD-eq-default}
-use lib.Seq.{drop-cons, getD-set-same, getD-set-other, getD-take, set-out}
+use lib.ListN.{length, take, getD, set, replicate, length-set, length-take, length-replicate, getD-replicate, List·getD-eq-default}
+use lib.Seq.{getD-set-same, getD-set-other, getD-take, set-out}
 use Rattle.lists.specs.Scan.{same}
-use Rattle.sheet.specs.NameFilter.{hashFrom, nameHash, inFilter, withHash, Filtered}
+use Rattle.sheet.specs.NameFilter.{nameHash, inFilter, withHash, Filtered}
 use Rattle.spec_sheet.specs.Line.{nameIn}
-
--- the hash from an index on, as a loop steps
-pub hash-go : (h : ℕ) (s : List ℕ) (i : ℕ) → i < length s → hashFrom h (drop i s) ≡ hashFrom ((h * 37 + getD s i 0) % 4096) (drop (i + 1) s)
-unfolding hashFrom
-hash-go h s i l = rw (add-one i, drop-cons s i 0 l)
-
-pub hash-end : (h : ℕ) (s : List ℕ) (i : ℕ) → length s ≤ i → hashFrom h (drop i s) ≡ h
-unfolding hashFrom
-hash-end h s i l = rw (drop-of-length-le s l)
 
 -- a bit of two numbers joined
 or-bit : (k a b : ℕ) → bitOr a b / 2 ^ k % 2 ≡ max (a / 2 ^ k % 2) (b / 2 ^ k % 2)

@@ -1,20 +1,17 @@
 -- A filter of names by hash: a name whose hash is not in it is none of those that were added. Assumes nothing.
-use Prim.Native.Nat.{ℕ, _+_, _*_, _/_, _%_, _^_, _<_}
+use Prim.Native.Nat.{ℕ, _/_, _%_, _^_, _<_}
 use mathlib.Core.Path.{_≡_}
 use mathlib.Core.Bool.{Bool, true}
-use mathlib.Core.List.{List, [], _∷_}
+use mathlib.Core.List.{List, []}
 use lib.Bits.{bitOr}
 use lib.Dec.{eqb}
 use lib.ListN.{length, getD, set}
 use Rattle.spec_sheet.specs.Line.{nameSize, nameIn}
+use Rattle.hash_index.specs.Hash.{hashOf}
 
 -- a number below 4096 by all bytes of a name
-unfoldable pub hashFrom : ℕ → List ℕ → ℕ
-hashFrom h [] = h
-hashFrom h (b ∷ s) = hashFrom ((h * 37 + b) % 4096) s
-
 abbrev pub nameHash : List ℕ → ℕ
-nameHash name = hashFrom 0 name
+nameHash name = hashOf name % 4096
 
 -- its 4096 bits are those of 64 numbers
 unfoldable pub inFilter : List ℕ → ℕ → Bool

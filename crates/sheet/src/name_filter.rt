@@ -1,27 +1,13 @@
 // A filter of names by hash: a name that is not in it is new, which saves the search.
 ghost use mathlib.Core.Path.{_≡_};
-ghost use Prim.Native.Nat.{_+_, _*_, _%_, _<_};
+ghost use Prim.Native.Nat.{_<_};
 ghost use Rattle.sheet.specs.NameFilter.{nameHash, inFilter, withHash};
-
-// One byte more.
-fn hash_with(h: usize, b: u8) -> usize
-    requires { ⌜ h < 4096 ⌝ }
-    ensures { λ r. ⌜ r ≡ (h * 37 + b) % 4096 ⌝ }
-{
-    (h * 37 + b as usize) % 4096
-}
 
 // A number below 4096 by all bytes of a name.
 pub fn name_hash(name: &[u8]) -> usize
     ensures { λ r. ⌜ (r ≡ nameHash (now (name .entry))) × (r < 4096) ⌝ }
 {
-    let mut h: usize = 0;
-    let mut i: usize = 0;
-    while i < name.len() {
-        h = hash_with(h, name[i]);
-        i += 1;
-    }
-    h
+    hash_index::hash::hash_of(name) % 4096
 }
 
 pub fn in_filter(filter: &[u64; 64], h: usize) -> bool

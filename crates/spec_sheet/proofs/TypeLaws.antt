@@ -9,7 +9,7 @@ use lib.ListN.{length, getD, List·getD-eq-default}
 use borrow.Author.Tests.{leb-true, le-leb, eqb-true, eq-eqb}
 use Rattle.lists.specs.Scan.{same}
 use Rattle.lists.specs.Choice.{pick, both, either, within}
-use Rattle.lists.proofs.Tests.{both-left, both-right, by-eqb, by-leb, true-not-false}
+use Rattle.lists.proofs.Tests.{both-left, both-right, both-yes, by-eqb, by-leb, true-not-false}
 use Rattle.spec_sheet.specs.Types.{typeCodeIn, typeCode, typeNames, widthOf, widths, familyOf, families, kindOf, kinds}
 
 -- the first name is the word, or is not
@@ -116,10 +116,27 @@ family-range f lo hi h e c w =
     (λ l. within-range lo hi c (by-codes (λ d. eqb (familyOf d) f) (within lo hi) e c l (eq-eqb (familyOf c) f w)))
     (λ l. absurd (omega (arith, family-past c l)))
 
+-- the strings are UInt8S, UInt16S and UInt32S
+pub family-string : (c : ℕ) → familyOf c ≡ 3 → (6 ≤ c) × (c ≤ 8)
+unfolding below implies familyOf
+family-string = family-range 3 6 8 (omega arith) refl
+
 -- the addresses are Addr8 and Addr32
 pub family-address : (c : ℕ) → familyOf c ≡ 4 → (9 ≤ c) × (c ≤ 10)
 unfolding below implies familyOf
 family-address = family-range 4 9 10 (omega arith) refl
+
+-- a family and a width make a type
+pub same-type : (c d : ℕ) → c ≤ 12 → d ≤ 12 → familyOf c ≡ familyOf d → widthOf c ≡ widthOf d → c ≡ d
+unfolding below implies familyOf widthOf
+same-type c d h l e f =
+    eqb-true c d
+    (implied (both (eqb (familyOf c) (familyOf d)) (eqb (widthOf c) (widthOf d))) (eqb c d)
+    (each-below (pair c) 13 (each-below (λ a. below (pair a) 13) 13 refl c (omega arith)) d (omega arith))
+    (both-yes _ _ (eq-eqb _ _ e) (eq-eqb _ _ f)))
+  where
+    pair : ℕ → ℕ → Bool
+    pair a b = implies (both (eqb (familyOf a) (familyOf b)) (eqb (widthOf a) (widthOf b))) (eqb a b)
 
 -- the bytes that a kind of value takes, by kind
 abbrev pub kindWidths : List ℕ

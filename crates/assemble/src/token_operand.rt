@@ -22,6 +22,10 @@ use hasm_tokens::number_token::register_value;
 use hasm_tokens::number_token::signed_value;
 use hasm_tokens::number_token::unsigned_value;
 use hasm_tokens::text_token::string_value;
+use sheet::operand_types::IMM32_FAMILY;
+use sheet::operand_types::REG_FAMILY;
+use sheet::operand_types::STRING_FAMILY;
+use sheet::operand_types::UINT_FAMILY;
 use slices::search::Found;
 
 // The value of a token that is no jump's target.
@@ -37,10 +41,10 @@ fn direct_value(
     ensures { λ r. ⌜ ((labels : List ℕ → search.Found) (offset code : ℕ) → familyOf code ≡ family → (family ≡ addrFamily → ⊥) → r ≡ tokenAnswer (tokenValue (now (bytes .entry)) (now (ends .entry)) labels offset code (now (t .entry)))) ⌝ }
 {
     match family {
-        1 => register_value(t),
-        2 => unsigned_value(t),
-        3 => string_value(t, bytes, ends, ids, work),
-        5 => signed_value(t),
+        REG_FAMILY => register_value(t),
+        UINT_FAMILY => unsigned_value(t),
+        STRING_FAMILY => string_value(t, bytes, ends, ids, work),
+        IMM32_FAMILY => signed_value(t),
         _ => double_value(t),
     }
 }
@@ -105,7 +109,7 @@ pub fn operand_value(
     ensures { λ r. ⌜ r ≡ tokenAnswer (tokenValue (now (bytes .entry)) (now (ends .entry)) (labelsOf (contextFrom (now (sheet .entry)) (now (types .entry)) (now (ops .entry)) (now (bytes .entry)) (now (ends .entry))) (now (text .entry))) offset code (now (t .entry))) ⌝ }
 {
     let family = sheet::operand_types::family(code);
-    if family == 4 {
+    if family == sheet::operand_types::ADDR_FAMILY {
         let width = sheet::operand_types::width(code);
         return target_distance(
             t,

@@ -100,13 +100,13 @@ fn encode_double(kind: u64, bits: u64) -> Fitted
 pub fn encode_number(code: u8, kind: u64, bits: u64) -> Fitted
     ensures { λ r. ⌜ r ≡ fittedOf (encodeOperand code kind bits) ⌝ }
 {
-    if sheet::operand_types::family(code) <= 3 {
+    if sheet::operand_types::family(code) <= sheet::operand_types::STRING_FAMILY {
         return encode_unsigned(code, kind, bits);
     }
-    if code == 9 {
+    if code == sheet::operand_types::ADDR8 {
         return encode_addr8(kind, bits);
     }
-    if code == 12 {
+    if code == sheet::operand_types::DOUBLE {
         return encode_double(kind, bits);
     }
     encode_signed32(kind, bits)

@@ -16,6 +16,10 @@ ghost use Rattle.list_labels.specs.FlowNames.{nameShown};
 ghost use Rattle.list_labels.specs.InstructionNotes.{targetIn, labelsIn};
 use crate::offset_set::Counts;
 use crate::offset_set::note;
+use sheet::operand_types::ADDR_FAMILY;
+use sheet::rows::JUMP_MARK;
+use sheet::rows::NAME_SIZE;
+use sheet::rows::NAME_START;
 
 // Notes the target of an operand at p of the jump at `at`, where it is an Addr's and not negative.
 fn note_target(
@@ -30,7 +34,7 @@ fn note_target(
     requires { ⌜ (at ≤ bodyLimit) × (p + widthOf code ≤ length (now s)) × (counts .near + counts .far < 18446744073709551615) ⌝ }
     ensures { λ r. ⌜ notesOf (now (flags .exit)) (now (stored .exit)) r ≡ noteAll (notesOf (now (flags .entry)) (now (stored .entry)) counts) (targetIn at code (le (part (now (s .entry)) p (widthOf code)))) ⌝ }
 {
-    if sheet::operand_types::family(code) == 4 {
+    if sheet::operand_types::family(code) == ADDR_FAMILY {
         let bits = numbers::io::read_le(s, p, sheet::operand_types::width(code));
         let target = crate::target::target_of(at, code, bits);
         if target < 0x8000_0000 {
@@ -102,8 +106,16 @@ pub fn note_instruction(
     ensures { λ r. ⌜ r .near + r .far ≤ at + size ⌝ }
 {
     let next = (at + size) as u32;
-    let c = note_behind(sheet, info[2], info[3], flags, stored, counts, next);
-    if info[1] == 1 {
+    let c = note_behind(
+        sheet,
+        info[NAME_START],
+        info[NAME_SIZE],
+        flags,
+        stored,
+        counts,
+        next,
+    );
+    if info[JUMP_MARK] == 1 {
         return note_targets(flags, stored, c, row, s, at);
     }
     c

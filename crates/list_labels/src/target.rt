@@ -12,7 +12,7 @@ pub fn target_of(at: usize, code: u8, bits: u64) -> u32
     requires { ⌜ (at ≤ bodyLimit) × (familyOf code ≡ addrFamily) × (bits < 256 ^ widthOf code) ⌝ }
     ensures { λ r. ⌜ r ≡ targetOf at code bits ⌝ }
 {
-    if code == 9 {
+    if code == sheet::operand_types::ADDR8 {
         return wrapping_target(at as u32, sign_extend8(bits as u8));
     }
     wrapping_target(at as u32, bits as u32)

@@ -13,6 +13,8 @@ ghost use Rattle.spec_body.specs.Decode.{rowAt};
 ghost use Rattle.spec_listing.specs.Line.{offsetText, instructionText};
 use crate::operand_text::put_operands;
 use crate::options::Options;
+use sheet::rows::NAME_SIZE;
+use sheet::rows::NAME_START;
 use slices::write::put_bytes;
 
 // Writes an offset and two spaces, where offsets are shown.
@@ -57,6 +59,6 @@ pub fn put_instruction(
     let info = ops[op];
     let row = types[op];
     let a = put_offset(out, k, options.show_offsets, at);
-    let b = put_name(out, a, sheet, info[2], info[3]);
+    let b = put_name(out, a, sheet, info[NAME_START], info[NAME_SIZE]);
     put_operands(out, b, options.resolve_strings, bytes, ends, row, s, at)
 }

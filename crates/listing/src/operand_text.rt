@@ -16,6 +16,11 @@ ghost use Rattle.spec_listing.specs.Operand.{stringText, operandText, operandTe
 use list_labels::target::target_of;
 use numbers::print_decimal::put_decimal;
 use numbers::print_decimal::put_signed;
+use sheet::operand_types::ADDR_FAMILY;
+use sheet::operand_types::IMM32_FAMILY;
+use sheet::operand_types::REG_FAMILY;
+use sheet::operand_types::STRING_FAMILY;
+use sheet::operand_types::UINT_FAMILY;
 use slices::write::put_byte;
 use slices::write::put_bytes;
 use strings::table::Entry;
@@ -67,11 +72,11 @@ pub fn put_operand(
 {
     let family = sheet::operand_types::family(code);
     match family {
-        1 => put_register(out, k, bits),
-        2 => put_decimal(out, k, bits),
-        3 => put_string(out, k, texts, bytes, ends, bits),
-        4 => put_target(out, k, target_of(at, code, bits)),
-        5 => put_signed(out, k, bits as u32),
+        REG_FAMILY => put_register(out, k, bits),
+        UINT_FAMILY => put_decimal(out, k, bits),
+        STRING_FAMILY => put_string(out, k, texts, bytes, ends, bits),
+        ADDR_FAMILY => put_target(out, k, target_of(at, code, bits)),
+        IMM32_FAMILY => put_signed(out, k, bits as u32),
         _ => numbers::print_double::put_double(out, k, bits),
     }
 }

@@ -2,9 +2,9 @@
 // the sheet answers.
 ghost use mathlib.Core.Path.{_≡_};
 ghost use Prim.Native.Nat.{_+_, _≤_, _<_};
-ghost use lib.ListN.{length, getD};
-ghost use Rattle.lists.specs.Scan.{part};
+ghost use lib.ListN.{length};
 ghost use Rattle.slices.specs.Answers.{foundOf};
+ghost use Rattle.spec_sheet.specs.Line.{nameIn};
 ghost use Rattle.spec_sheet.specs.Sheet.{findName};
 ghost use Rattle.sheet.specs.Keys.{nameBuckets, opcodeCount, bucketOf, NamesIndexed};
 use slices::search::Found;
@@ -25,10 +25,10 @@ fn bucket_of(name: &[u8]) -> usize
 
 // The bucket of the name in a row.
 fn row_bucket(sheet: &[u8], row: [usize; 4]) -> usize
-    ensures { λ r. ⌜ (r ≡ bucketOf (part (now (sheet .entry)) (getD row 2 0) (getD row 3 0))) × (r < nameBuckets) ⌝ }
+    ensures { λ r. ⌜ (r ≡ bucketOf (nameIn (now (sheet .entry)) row)) × (r < nameBuckets) ⌝ }
 {
-    let start = row[2];
-    let size = row[3];
+    let start = row[crate::rows::NAME_START];
+    let size = row[crate::rows::NAME_SIZE];
     let name = slices::part::part_of(sheet, start, size);
     bucket_of(name)
 }

@@ -4,6 +4,22 @@ ghost use lib.ListN.{getD};
 ghost use Rattle.spec_sheet.specs.Types.{typeCode, widthOf, familyOf, kindOf};
 use slices::compare::same_bytes;
 
+// Two codes that other crates name.
+pub const ADDR8: u8 = 9;
+
+pub const DOUBLE: u8 = 12;
+
+// The families of a carry; 0 for no operand.
+pub const REG_FAMILY: u8 = 1;
+
+pub const UINT_FAMILY: u8 = 2;
+
+pub const STRING_FAMILY: u8 = 3;
+
+pub const ADDR_FAMILY: u8 = 4;
+
+pub const IMM32_FAMILY: u8 = 5;
+
 // The code of a type's name, or 0.
 pub fn type_code(word: &[u8]) -> u8
     ensures { λ r. ⌜ r ≡ typeCode (now (word .entry)) ⌝ }

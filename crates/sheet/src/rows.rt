@@ -13,12 +13,21 @@ ghost use Rattle.sheet.specs.Rows.{turnOf, typesStored, infosStored};
 use crate::scan::Step;
 use slices::search::Found;
 
+// Where an opcode's row has its operand count, its jump mark, and the start and length of its name.
+pub const OPERAND_COUNT: usize = 0;
+
+pub const JUMP_MARK: usize = 1;
+
+pub const NAME_START: usize = 2;
+
+pub const NAME_SIZE: usize = 3;
+
 // Whether an opcode has this name.
 pub fn has_name(s: &[u8], name: &[u8], row: [usize; 4]) -> bool
     ensures { λ r. ⌜ r ≡ hasName (now (s .entry)) (now (name .entry)) row ⌝ }
 {
-    let start = row[2];
-    let size = row[3];
+    let start = row[NAME_START];
+    let size = row[NAME_SIZE];
     if size == 0 {
         return false;
     }
@@ -78,7 +87,7 @@ fn store_op(
     if code < least {
         return false;
     }
-    let name = slices::part::part_of(s, info[2], info[3]);
+    let name = slices::part::part_of(s, info[NAME_START], info[NAME_SIZE]);
     let h = crate::name_filter::name_hash(name);
     let seen = crate::name_filter::in_filter(filter, h);
     if is_new(s, name, ops, least, seen) {

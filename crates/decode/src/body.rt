@@ -9,6 +9,7 @@ ghost use Rattle.spec_body.specs.Decode.{decodeBody};
 ghost use Rattle.spec_body.specs.Decode.Decoded.{decoded};
 ghost use Rattle.decode.specs.Bodies.{storedAt, bodyAnswer};
 ghost use Rattle.decode.specs.Tables.{CodeRows, headRow};
+use slices::widen::byte_index;
 
 // A body's records, counted, or the instruction where it is refused.
 pub enum Body {
@@ -51,7 +52,7 @@ pub fn decode_body(types: &[[u8; 8]; 256], last: usize, s: &[u8], out: &mut [u64
         }
         let row = types[op];
         let head = heads[op];
-        let size = crate::tables::number(head[0]);
+        let size = byte_index(head[0]);
         if s.len() - at < size {
             return Body::Cut(at);
         }

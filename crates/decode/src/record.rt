@@ -11,12 +11,7 @@ ghost use Rattle.decode.specs.Tables.{CodeRows, headRow};
 use crate::operand_value::Operand;
 use crate::tables::kind_at;
 use crate::tables::width_at;
-
-fn wide(b: u8) -> u64
-    ensures { λ r. ⌜ r ≡ b ⌝ }
-{
-    b as u64
-}
+use slices::widen::wide_byte;
 
 // Writes two words.
 fn put_pair(out: &mut [u64], k: usize, first: u64, second: u64)
@@ -60,7 +55,7 @@ fn put_operands(
         let o = operand_at(c, codes, s, at, p);
         let value = o.value;
         let kind = crate::operand_value::kind_of(value);
-        put_pair(out, k + 2 * i, wide(kind), o.bits);
+        put_pair(out, k + 2 * i, wide_byte(kind), o.bits);
         p += width_at(codes, c);
         i += 1;
     }
@@ -79,7 +74,7 @@ pub fn put_record(
     requires { ⌜ (k + 20 ≤ length (now out)) × (head ≡ headRow row) × CodeRows (now codes) × (at + lengthOf row ≤ length (now s)) ⌝ }
     ensures { λ _. ⌜ (now (out .exit) ≡ paste (now (out .entry)) k (recordOf row (now (s .entry)) at) 20) × (length row ≡ 8) ⌝ }
 {
-    put_pair(out, k, at as u64, wide(s[at]));
-    put_pair(out, k + 2, wide(head[0]), wide(head[1]));
+    put_pair(out, k, at as u64, wide_byte(s[at]));
+    put_pair(out, k + 2, wide_byte(head[0]), wide_byte(head[1]));
     put_operands(out, k + 4, row, codes, s, at);
 }

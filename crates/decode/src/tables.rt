@@ -2,13 +2,7 @@
 ghost use mathlib.Core.Path.{_≡_};
 ghost use Rattle.spec_sheet.specs.Types.{widthOf, kindOf};
 ghost use Rattle.decode.specs.Tables.{codeRow, CodeRows, headRow, HeadRows};
-
-// A byte as a number of bytes.
-pub fn number(b: u8) -> usize
-    ensures { λ r. ⌜ r ≡ b ⌝ }
-{
-    b as usize
-}
+use slices::widen::byte_index;
 
 // A type code's width and kind.
 fn code_row(code: u8) -> [u8; 2]
@@ -39,7 +33,7 @@ pub fn width_at(codes: &[[u8; 2]; 256], code: u8) -> usize
     ensures { λ r. ⌜ r ≡ widthOf code ⌝ }
 {
     let c = code as usize;
-    number(codes[c][0])
+    byte_index(codes[c][0])
 }
 
 pub fn kind_at(codes: &[[u8; 2]; 256], code: u8) -> u8

@@ -11,6 +11,7 @@ ghost use Rattle.spec_numbers.specs.LittleEndian.{leBytes};
 ghost use Rattle.spec_sheet.specs.Types.{widthOf};
 ghost use Rattle.encode.specs.Ahead.{recordAt, pairsAt, Ahead, CanonicalPut};
 ghost use Rattle.encode.specs.Canonical.{codeTable, inOrder, canonicalCount, Counted, canonicalPair, canonicalPairs, canonicalBytes, allZero, canonicalRecord};
+use slices::widen::wide_byte;
 
 // By type code: the kind that it is decoded to, its largest bits, and its bytes. It is made once for all records and lent,
 // since a constant would be made anew at each use.
@@ -129,12 +130,6 @@ fn bare_words(words: &[u64], at: usize) -> bool
     met == 0
 }
 
-fn wide(n: u8) -> u64
-    ensures { λ r. ⌜ r ≡ n ⌝ }
-{
-    n as u64
-}
-
 // Whether the record at `at` is one.
 pub fn is_canonical(
     codes: &[[u64; 13]; 3],
@@ -156,7 +151,7 @@ pub fn is_canonical(
     if 4 < count {
         return false;
     }
-    if count != wide(counts[op]) {
+    if count != wide_byte(counts[op]) {
         return false;
     }
     if bare_words(words, at) {

@@ -3,6 +3,7 @@ ghost use mathlib.Core.Path.{_≡_};
 ghost use mathlib.Core.List.{_++_};
 ghost use Prim.Native.Nat.{_+_, _≤_, _<_, _^_};
 ghost use lib.ListN.{length, drop, getD, set, replicate};
+use slices::widen::wide;
 
 // Every chain of an index of m buckets ends at once: its head is n, which is no index.
 pub fn empty_heads(index: &mut [u32], m: usize, n: usize)
@@ -24,12 +25,6 @@ pub fn put_in_front(index: &mut [u32], m: usize, h: usize, i: usize)
 {
     index[m + i] = index[h];
     index[h] = i as u32;
-}
-
-fn wide(x: u32) -> usize
-    ensures { λ r. ⌜ r ≡ x ⌝ }
-{
-    x as usize
 }
 
 // An element as an index, as heads and nexts are.

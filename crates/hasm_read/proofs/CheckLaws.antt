@@ -1,42 +1,18 @@
 -- Laws of the check of a text's lines. Assumes nothing.
 use mathlib.Core.Path.{_≡_, refl, _∙_}
-use mathlib.Core.Bool.{Bool, true, false}
+use mathlib.Core.Bool.{true, false}
 use Prim.Native.Nat.{ℕ, _+_, _≤_, _<_}
 use native.Mathlib.Numerals.{add-one}
 use native.Mathlib.Omega.{arith}
 use mathlib.Core.List.{List, _∷_}
 use borrow.Author.Tests.{lt-ltb, le-ltb}
-use lib.Dec.{eqb}
 use lib.ListN.{length, drop}
-use Rattle.lists.specs.Choice.{either, within}
 use Rattle.lists.specs.Scan.{run, all}
 use Rattle.spec_hasm.specs.Text.{linesOf}
 use Rattle.spec_hasm.specs.Assemble.{Assembled, isTextByte, unlessBadLine}
 use Rattle.spec_hasm.specs.Assemble.Assembled.{refusedAt}
 use Rattle.hasm_read.specs.Lines.{notFeed, lineIn}
 use Rattle.hasm_read.proofs.LineLaws.{line-next, lines-none}
-
--- a byte of a text, by the ranges in the order that the code tests them
-pub shown-byte : (b : ℕ) → within 32 126 b ≡ true → isTextByte b ≡ true
-unfolding isTextByte
-shown-byte b e = rw e (go (within 9 10 b) (eqb b 13))
-  where
-    go : (t u : Bool) → either t (either u true) ≡ true
-    go true u = refl
-    go false true = refl
-    go false false = refl
-
-pub tab-or-feed : (b : ℕ) → within 9 10 b ≡ true → isTextByte b ≡ true
-unfolding isTextByte
-tab-or-feed b e = rw e
-
-pub other-byte : (b : ℕ) → within 32 126 b ≡ false → within 9 10 b ≡ false → isTextByte b ≡ eqb b 13
-unfolding isTextByte
-other-byte b e f = rw (e, f) (go (eqb b 13))
-  where
-    go : (t : Bool) → either t false ≡ t
-    go true = refl
-    go false = refl
 
 -- line n is too long; it has a byte that is no text; it is good
 module _ (n : ℕ) (l : List ℕ) (ls : List (List ℕ)) (rest : Assembled) where

@@ -7,7 +7,6 @@ ghost use Rattle.spec_hasm.specs.Text.{linesOf};
 ghost use Rattle.spec_hasm.specs.Assemble.{Assembled, isTextByte, unlessBadLine};
 ghost use Rattle.hasm_read.specs.Lines.{notFeed, lineLength, lineIn};
 ghost use Rattle.hasm_read.specs.Refusals.{checkedOr};
-use slices::compare::is_within;
 
 // Where the next LF stands, or the end.
 pub fn line_end(s: &[u8], at: usize) -> usize
@@ -48,30 +47,13 @@ pub fn line_of(s: &[u8], at: usize, end: usize) -> &[u8]
     slices::part::part_of(s, at, n)
 }
 
-// Most bytes are shown characters, so those are tested first.
-fn is_text_byte(b: u8) -> bool
-    ensures { λ r. ⌜ r ≡ isTextByte b ⌝ }
-{
-    if is_within(32, 126, b) {
-        return true;
-    }
-    if is_within(9, 10, b) {
-        return true;
-    }
-    b == 13
-}
+// The bytes of a text: TAB, LF, CR and 32 to 126.
+const TEXT: [u64; 4] = [0xffff_ffff_0000_2600, 0x7fff_ffff_ffff_ffff, 0, 0];
 
 fn is_text(line: &[u8]) -> bool
     ensures { λ r. ⌜ r ≡ all isTextByte (now (line .entry)) ⌝ }
 {
-    let mut i: usize = 0;
-    while i < line.len() {
-        if !is_text_byte(line[i]) {
-            return false;
-        }
-        i += 1;
-    }
-    true
+    slices::class::all_in(line, TEXT)
 }
 
 // Whether all lines are good, or the first that is too long (3) or no text (2), by its number.

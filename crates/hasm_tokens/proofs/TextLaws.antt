@@ -24,13 +24,6 @@ use Rattle.hasm_tokens.specs.declared.number_token.Value.{Value}
 use Rattle.hasm_tokens.specs.Values.{tokenAnswer}
 use Rattle.hasm_tokens.specs.TextValues.{indexOr, isLiteral}
 
--- a byte, by whether it is a backslash
-pub literal-no : (b : ℕ) → b ≡ 92 → isLiteral b ≡ false
-literal-no b e = rw e
-
-pub literal-yes : (b : ℕ) → (b ≡ 92 → ⊥) → isLiteral b ≡ true
-literal-yes b h = rw (ne-eqb b 92 h)
-
 module _ (b : ℕ) (s : List ℕ) where
   unescape-go : eqb b 92 ≡ false → unescape false (b ∷ s) ≡ b ∷ unescape false s
   unfolding unescape

@@ -26,18 +26,19 @@ fn index_or(number: u64, found: Found) -> Value
     Value::Bits(i as u64)
 }
 
+// All bytes but the backslash.
+const LITERAL: [u64; 4] = [
+    0xffff_ffff_ffff_ffff,
+    0xffff_ffff_efff_ffff,
+    0xffff_ffff_ffff_ffff,
+    0xffff_ffff_ffff_ffff,
+];
+
 // Whether no byte is a backslash.
 fn all_literal(s: &[u8]) -> bool
     ensures { λ r. ⌜ r ≡ all isLiteral (now (s .entry)) ⌝ }
 {
-    let mut i: usize = 0;
-    while i < s.len() {
-        if s[i] == 92 {
-            return false;
-        }
-        i += 1;
-    }
-    true
+    slices::class::all_in(s, LITERAL)
 }
 
 // The id of what stands between the quotes. A text without a backslash means itself, so it is looked up where it stands.

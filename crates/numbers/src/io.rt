@@ -5,20 +5,15 @@ ghost use lib.ListN.{length};
 ghost use Rattle.lists.specs.Scan.{part};
 ghost use Rattle.lists.specs.Write.{Put};
 ghost use Rattle.spec_numbers.specs.LittleEndian.{le, leBytes};
+use slices::widen::wide_byte;
 use slices::write::put_byte;
-
-fn wide(b: u8) -> u64
-    ensures { λ r. ⌜ (r ≡ b) × (r < 256) ⌝ }
-{
-    b as u64
-}
 
 // The numbers of two, four and eight bytes. Each is the sum of two halves, which compiles to one load.
 fn two_bytes(s: &[u8], at: usize) -> u64
     requires { ⌜ at + 2 ≤ length (now s) ⌝ }
     ensures { λ r. ⌜ (r ≡ le (part (now (s .entry)) at 2)) × (r < 256 ^ 2) ⌝ }
 {
-    wide(s[at]) + wide(s[at + 1]) * 256
+    wide_byte(s[at]) + wide_byte(s[at + 1]) * 256
 }
 
 fn four_bytes(s: &[u8], at: usize) -> u64

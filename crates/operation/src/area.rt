@@ -1,7 +1,7 @@
 // Functions of an area: where one's body lies.
 ghost use mathlib.Core.Path.{_≡_};
-ghost use Prim.Native.Nat.{_≤_};
 ghost use Rattle.operation.specs.Places.{locatedOf, Within};
+use slices::widen::wide;
 
 // A function's body in its area, and the id of its name.
 pub struct Function {
@@ -39,10 +39,4 @@ pub fn locate(functions: &[u32], area: &[u8], base: u32, id: usize) -> Located
     }
     let name = wide(functions[3 * id + 2]);
     Located::Inside(Function { start, size, name })
-}
-
-fn wide(x: u32) -> usize
-    ensures { λ r. ⌜ (r ≡ x) × (r ≤ 4294967295) ⌝ }
-{
-    x as usize
 }

@@ -1,2 +1,3 @@
 pub mod SearchLaws
 pub mod CopyLaws
+pub mod ClassLaws

@@ -152,30 +152,13 @@ fn put_characters(out: &mut [u8], at: usize, s: &[u8]) -> usize
     k
 }
 
-// A byte that is a whole character and stands for itself.
-fn is_bare(b: u8) -> bool
-    ensures { λ r. ⌜ r ≡ bare b ⌝ }
-{
-    if b == 34 {
-        return false;
-    }
-    if b == 92 {
-        return false;
-    }
-    slices::compare::is_within(32, 126, b)
-}
+// The bytes that are whole characters and stand for themselves: 32 to 126 but for the quote and the backslash.
+const BARE: [u64; 4] = [0xffff_fffb_0000_0000, 0x7fff_ffff_efff_ffff, 0, 0];
 
 fn all_bare(s: &[u8]) -> bool
     ensures { λ r. ⌜ r ≡ all bare (now (s .entry)) ⌝ }
 {
-    let mut i: usize = 0;
-    while i < s.len() {
-        if !is_bare(s[i]) {
-            return false;
-        }
-        i += 1;
-    }
-    true
+    slices::class::all_in(s, BARE)
 }
 
 // Writes a text with its escapes. Most have none and are copied.

@@ -6,6 +6,7 @@ ghost use Rattle.slices.specs.Answers.{foundOf};
 ghost use Rattle.spec_strings.specs.Table.{tooLarge, fault, wellFormed, lookup};
 ghost use Rattle.strings.specs.Answers.{entryOf};
 use slices::search::Found;
+use slices::widen::wide;
 
 // Where a text starts and ends, or that the id is not below the count.
 pub enum Entry {
@@ -21,12 +22,6 @@ pub fn too_large(bytes: &[u8], ends: &[u32]) -> bool
         return true;
     }
     limits::STRING_BYTES_LIMIT < bytes.len()
-}
-
-fn wide(x: u32) -> usize
-    ensures { λ r. ⌜ r ≡ x ⌝ }
-{
-    x as usize
 }
 
 // The text from start to end, as far as there is any: the ends may fall or pass the bytes.

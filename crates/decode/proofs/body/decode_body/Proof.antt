@@ -55,20 +55,20 @@ mul-head c = omega (arith, c .before .before .shared-slice-known2 .given (c .bef
 array-copy-out-head : tie.Need-array-copy-out-head Inv-loop μ-loop
 array-copy-out-head c = c .before .before .shared-slice-known2 .given (c .before .before .before .before .loop .at) .fits
 
-array-read-number : tie.Need-array-read-number Inv-loop μ-loop
-array-read-number c = search needs
+array-read-byte-index : tie.Need-array-read-byte-index Inv-loop μ-loop
+array-read-byte-index c = search needs
 
-number-requires : tie.Need-number-requires Inv-loop μ-loop
-number-requires c κs = search needs
+byte-index-requires : tie.Need-byte-index-requires Inv-loop μ-loop
+byte-index-requires c κs = search needs
 
 sub-if2 : tie.Need-sub-if2 Inv-loop μ-loop
 sub-if2 c = search needs
 
 -- the size that is looked up is the instruction's length
-size-is : (c : tie.After-number Inv-loop μ-loop) → c .number .result ≡ lengthOf (rowAt (c .before .before .before .before .before .before .before .before .before .before .before .args .types .now) (c .before .before .before .before .before .before .before .before .before .before .before .args .s .now) (c .before .before .before .before .before .before .loop .at))
+size-is : (c : tie.After-byte-index Inv-loop μ-loop) → c .byte-index .result ≡ lengthOf (rowAt (c .before .before .before .before .before .before .before .before .before .before .before .args .types .now) (c .before .before .before .before .before .before .before .before .before .before .before .args .s .now) (c .before .before .before .before .before .before .loop .at))
 size-is c =
     let a = c .before .before .before .before .before .before .before .before .before .before .before .args in
-    c .number .ensures
+    c .byte-index .ensures
     ∙ length-in (a .types .now) (a .last) (c .before .before .before .before .before .before .before .head-rows .result) _ (c .before .before .before .before .before .before .before .head-rows .ensures) (c .before .before .before .before .shared-slice-known2 .given (c .before .before .before .before .before .before .loop .at) .fits) (c .before .before .before .if1 .left)
 
 same-length-2 : tie.Need-same-length-2 Inv-loop μ-loop
@@ -128,8 +128,8 @@ decode-body-spec =
     element-copy-out-row
     mul-head
     array-copy-out-head
-    array-read-number
-    number-requires
+    array-read-byte-index
+    byte-index-requires
     sub-if2
     same-length-2
     returns-2

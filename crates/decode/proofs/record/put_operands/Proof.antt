@@ -46,8 +46,8 @@ mul-put-pair c = search needs
 add-put-pair : tie.Need-add-put-pair Inv-loop μ-loop
 add-put-pair c = search needs
 
-wide-requires : tie.Need-wide-requires Inv-loop μ-loop
-wide-requires c κs = search needs
+wide-byte-requires : tie.Need-wide-byte-requires Inv-loop μ-loop
+wide-byte-requires c κs = search needs
 
 put-pair-requires : tie.Need-put-pair-requires Inv-loop μ-loop
 put-pair-requires c κs =
@@ -80,7 +80,7 @@ loop-again c =
     let row = a .args .t3 in
     let h : length row ≡ 8 = search needs in
     let o = c .before .before .before .before .before .before .before .operand-at .ensures in
-    let k = c .before .before .before .before .wide .ensures ∙ (c .before .before .before .before .before .before .kind-of .ensures ∙ (ap (λ (x : Operand). kindOfValue (x .value)) o ∙ kind-back (kindOf (getD row (l .i) 0)) (le (part (a .args .s .now) (l .p) (widthOf (getD row (l .i) 0)))) (kind-most (getD row (l .i) 0)))) in
+    let k = c .before .before .before .before .wide-byte .ensures .0 ∙ (c .before .before .before .before .before .before .kind-of .ensures ∙ (ap (λ (x : Operand). kindOfValue (x .value)) o ∙ kind-back (kindOf (getD row (l .i) 0)) (le (part (a .args .s .now) (l .p) (widthOf (getD row (l .i) 0)))) (kind-most (getD row (l .i) 0)))) in
     rw (c .before .before .before .put-pair .ensures) (turn row (a .args .s .now) (a .args .out .now) (a .args .k) (a .args .at) h (a .pre .0) (l .out) (l .p) (l .i) (l .inv) _ _ _ (c .before .before .before .before .before .before .before .before .loop-test .taken) k (ap (λ (x : Operand). x .bits) o) (c .width-at .ensures))
 
 same-length : tie.Need-same-length Inv-loop μ-loop
@@ -108,7 +108,7 @@ put-operands-spec =
     kind-of-requires
     mul-put-pair
     add-put-pair
-    wide-requires
+    wide-byte-requires
     put-pair-requires
     width-at-requires
     add-p-2

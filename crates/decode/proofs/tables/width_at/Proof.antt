@@ -4,23 +4,23 @@ use borrow.Author.Needs.{needs}
 use Rattle.decode.proofs.tables.width_at.Statement.{statement}
 use Rattle.decode.proofs.tables.width_at.Tie as tie
 
-mul-number : tie.Need-mul-number
-mul-number c = search needs
+mul-byte-index : tie.Need-mul-byte-index
+mul-byte-index c = search needs
 
-index-1-number : tie.Need-index-1-number
-index-1-number c = search needs
+index-1-byte-index : tie.Need-index-1-byte-index
+index-1-byte-index c = search needs
 
-index-2-number : tie.Need-index-2-number
-index-2-number c = search needs
+index-2-byte-index : tie.Need-index-2-byte-index
+index-2-byte-index c = search needs
 
-number-requires : tie.Need-number-requires
-number-requires c κs = search needs
+byte-index-requires : tie.Need-byte-index-requires
+byte-index-requires c κs = search needs
 
 returns : tie.Need-returns
 returns c =
     let a = c .before .before in
-    c .number .ensures ∙ width-in (a .args .codes .now) (a .args .code) (a .pre) (a .fits .code .fits)
+    c .byte-index .ensures ∙ width-in (a .args .codes .now) (a .args .code) (a .pre) (a .fits .code .fits)
 
 pub width-at-spec : {M : Type 1} → statement M
 width-at-spec =
-    tie.close (tie.spec mul-number index-1-number index-2-number number-requires returns)
+    tie.close (tie.spec mul-byte-index index-1-byte-index index-2-byte-index byte-index-requires returns)

@@ -37,16 +37,16 @@ returns-2 c =
     let a = c .before .before .before .before .before .args in
     sym (by-words (a .types .now) (a .last) (a .words .now) (a .at) ∙ rw (le-leb (getD (a .words .now) (a .at + 1) 0) (a .last) (c .before .before .if1 .left), lt-leb (getD (a .words .now) (a .at + 3) 0) 4 (c .if2 .taken)))
 
-element-copy-out-wide : tie.Need-element-copy-out-wide
-element-copy-out-wide c = search needs
+element-copy-out-wide-byte : tie.Need-element-copy-out-wide-byte
+element-copy-out-wide-byte c = search needs
 
-wide-requires : tie.Need-wide-requires
-wide-requires c κs = search needs
+wide-byte-requires : tie.Need-wide-byte-requires
+wide-byte-requires c κs = search needs
 
 returns-3 : tie.Need-returns-3
 returns-3 c =
     let a = c .before .before .before .before .before .before .before .before .args in
-    let n = c .before .wide .ensures ∙ c .before .before .before .before .before .before .before .before .pre .1 (getD (a .words .now) (a .at + 1) 0) (c .before .before .before .before .before .if1 .left) in
+    let n = c .before .wide-byte .ensures .0 ∙ c .before .before .before .before .before .before .before .before .pre .1 (getD (a .words .now) (a .at + 1) 0) (c .before .before .before .before .before .if1 .left) in
     sym (by-words (a .types .now) (a .last) (a .words .now) (a .at) ∙ rw (le-leb (getD (a .words .now) (a .at + 1) 0) (a .last) (c .before .before .before .before .before .if1 .left), le-leb (getD (a .words .now) (a .at + 3) 0) 4 (c .before .before .before .if2 .left), ne-eqb (getD (a .words .now) (a .at + 3) 0) (canonicalCount (getD (a .types .now) (getD (a .words .now) (a .at + 1) 0) [])) (rw n at (c .if3 .taken))))
 
 bare-words-requires : tie.Need-bare-words-requires
@@ -64,13 +64,13 @@ canonical-front-requires c κs = search needs
 returns-4 : tie.Need-returns-4
 returns-4 c =
     let a = c .before .before .before .before .before .before .before .before .before .before .before .before .args in
-    let n = c .before .before .before .before .before .wide .ensures ∙ c .before .before .before .before .before .before .before .before .before .before .before .before .pre .1 (getD (a .words .now) (a .at + 1) 0) (c .before .before .before .before .before .before .before .before .before .if1 .left) in
+    let n = c .before .before .before .before .before .wide-byte .ensures .0 ∙ c .before .before .before .before .before .before .before .before .before .before .before .before .pre .1 (getD (a .words .now) (a .at + 1) 0) (c .before .before .before .before .before .before .before .before .before .if1 .left) in
     sym (by-words (a .types .now) (a .last) (a .words .now) (a .at) ∙ rw (le-leb (getD (a .words .now) (a .at + 1) 0) (a .last) (c .before .before .before .before .before .before .before .before .before .if1 .left), le-leb (getD (a .words .now) (a .at + 3) 0) 4 (c .before .before .before .before .before .before .before .if2 .left), eq-eqb (getD (a .words .now) (a .at + 3) 0) (canonicalCount (getD (a .types .now) (getD (a .words .now) (a .at + 1) 0) [])) (rw n at (c .before .before .before .before .if3 .left)), sym (c .before .before .before .bare-words .ensures) ∙ c .before .before .if4 .taken) (sym (c .canonical-front .ensures)))
 
 returns-5 : tie.Need-returns-5
 returns-5 c =
     let a = c .before .before .before .before .before .before .before .before .before .before .args in
-    let n = c .before .before .before .wide .ensures ∙ c .before .before .before .before .before .before .before .before .before .before .pre .1 (getD (a .words .now) (a .at + 1) 0) (c .before .before .before .before .before .before .before .if1 .left) in
+    let n = c .before .before .before .wide-byte .ensures .0 ∙ c .before .before .before .before .before .before .before .before .before .before .pre .1 (getD (a .words .now) (a .at + 1) 0) (c .before .before .before .before .before .before .before .if1 .left) in
     sym (by-words (a .types .now) (a .last) (a .words .now) (a .at) ∙ rw (le-leb (getD (a .words .now) (a .at + 1) 0) (a .last) (c .before .before .before .before .before .before .before .if1 .left), le-leb (getD (a .words .now) (a .at + 3) 0) 4 (c .before .before .before .before .before .if2 .left), eq-eqb (getD (a .words .now) (a .at + 3) 0) (canonicalCount (getD (a .types .now) (getD (a .words .now) (a .at + 1) 0) [])) (rw n at (c .before .before .if3 .left)), sym (c .before .bare-words .ensures) ∙ c .if4 .left))
 
 pub is-canonical-spec : {M : Type 1} → statement M
@@ -85,8 +85,8 @@ is-canonical-spec =
     mul-count
     shared-slice-read-count
     returns-2
-    element-copy-out-wide
-    wide-requires
+    element-copy-out-wide-byte
+    wide-byte-requires
     returns-3
     bare-words-requires
     mul-canonical-front

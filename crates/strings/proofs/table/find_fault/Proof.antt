@@ -36,7 +36,7 @@ returns c =
     let p = c .before in
     let l = p .before .before .before .before .loop in
     let h = p .before .before .before .loop-test .taken in
-    sym (ap foundOf (l .inv .1 ∙ fault-stop _ _ _ _ h (p .before .wide .ensures) (sym (p .well-formed .ensures) ∙ not-true _ (c .if1 .taken))))
+    sym (ap foundOf (l .inv .1 ∙ fault-stop _ _ _ _ h (p .before .wide .ensures .0) (sym (p .well-formed .ensures) ∙ not-true _ (c .if1 .taken))))
 
 add-i : tie.Need-add-i Inv-loop μ-loop
 add-i c = search needs
@@ -49,7 +49,7 @@ loop-again c =
     let p = c .before in
     let l = p .before .before .before .before .loop in
     let h = p .before .before .before .loop-test .taken in
-    (omega arith, l .inv .1 ∙ fault-go _ _ _ _ h (p .before .wide .ensures) (sym (p .well-formed .ensures) ∙ not-false _ (c .if1 .left)))
+    (omega arith, l .inv .1 ∙ fault-go _ _ _ _ h (p .before .wide .ensures .0) (sym (p .well-formed .ensures) ∙ not-false _ (c .if1 .left)))
 
 returns-2 : tie.Need-returns-2 Inv-loop μ-loop
 returns-2 c = let l = c .before .loop in sym (ap foundOf (l .inv .1 ∙ fault-end _ _ _ _ (c .loop-test .left)))

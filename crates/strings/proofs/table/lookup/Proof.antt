@@ -40,7 +40,7 @@ returns c =
     let l = q .before .before .before .before in
     let a = l .before .before .before .before .args in
     let h = q .before .before .before .loop-test .taken in
-    sym (ap foundOf (l .loop .inv .1 ∙ lookup-stop (a .bytes .now) (a .ends .now) _ _ h (q .before .wide .ensures) (a .text .now) (q .entry-part .ensures) (sym (p .same-bytes .ensures) ∙ c .if1 .taken)))
+    sym (ap foundOf (l .loop .inv .1 ∙ lookup-stop (a .bytes .now) (a .ends .now) _ _ h (q .before .wide .ensures .0) (a .text .now) (q .entry-part .ensures) (sym (p .same-bytes .ensures) ∙ c .if1 .taken)))
 
 add-i : tie.Need-add-i Inv-loop μ-loop
 add-i c = search needs
@@ -55,7 +55,7 @@ loop-again c =
     let l = q .before .before .before .before in
     let a = l .before .before .before .before .args in
     let h = q .before .before .before .loop-test .taken in
-    (omega arith, l .loop .inv .1 ∙ lookup-go (a .bytes .now) (a .ends .now) _ _ h (q .before .wide .ensures) (a .text .now) (q .entry-part .ensures) (sym (p .same-bytes .ensures) ∙ c .if1 .left))
+    (omega arith, l .loop .inv .1 ∙ lookup-go (a .bytes .now) (a .ends .now) _ _ h (q .before .wide .ensures .0) (a .text .now) (q .entry-part .ensures) (sym (p .same-bytes .ensures) ∙ c .if1 .left))
 
 returns-2 : tie.Need-returns-2 Inv-loop μ-loop
 returns-2 c = let l = c .before .loop in sym (ap foundOf (l .inv .1 ∙ lookup-end _ _ _ _ _ (c .loop-test .left)))

@@ -22,7 +22,7 @@ wide-requires c κs = search needs
 returns-2 : tie.Need-returns-2
 returns-2 c =
     let p = c .before .before in
-    entry-first _ _ _ (omega arith) (p .if2 .taken) (c .wide .ensures)
+    entry-first _ _ _ (omega arith) (p .if2 .taken) (c .wide .ensures .0)
 
 sub-wide : tie.Need-sub-wide
 sub-wide c = search needs
@@ -48,7 +48,7 @@ wide-requires-3 c κs = search needs
 returns-3 : tie.Need-returns-3
 returns-3 c =
     let p = c .before .before in
-    entry-next _ _ _ _ (omega arith) (omega arith) (p .wide2 .ensures) (c .wide3 .ensures)
+    entry-next _ _ _ _ (omega arith) (omega arith) (p .wide2 .ensures .0) (c .wide3 .ensures .0)
 
 pub string-at-spec : {M : Type 1} → statement M
 string-at-spec =

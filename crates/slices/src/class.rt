@@ -3,8 +3,9 @@ ghost use mathlib.Core.Path.{_≡_};
 ghost use Rattle.lists.specs.Scan.{all};
 ghost use Rattle.slices.specs.Class.{inClass};
 
-fn in_class(class: [u64; 4], b: u8) -> bool
-    ensures { λ r. ⌜ r ≡ inClass class b ⌝ }
+// The class is lent, since a copy for each byte costs more than the test.
+fn in_class(class: &[u64; 4], b: u8) -> bool
+    ensures { λ r. ⌜ r ≡ inClass (now (class .entry)) b ⌝ }
 {
     let n = b as usize;
     let k = n / 64;
@@ -18,7 +19,7 @@ pub fn all_in(s: &[u8], class: [u64; 4]) -> bool
 {
     let mut i: usize = 0;
     while i < s.len() {
-        if !in_class(class, s[i]) {
+        if !in_class(&class, s[i]) {
             return false;
         }
         i += 1;

@@ -27,8 +27,8 @@ in-class-requires c κs = search needs
 
 returns : tie.Need-returns Inv-loop μ-loop
 returns c =
-    let l = c .before .before .before .before .loop in
-    sym (l .inv .1 ∙ all-stop (inClass (c .before .before .before .before .before .before .args .class)) (c .before .before .before .before .before .before .args .s .now) (l .i) (c .before .before .before .loop-test .taken) (sym (c .before .in-class .ensures) ∙ not-true _ (c .if1 .taken)))
+    let l = c .before .before .before .before .before .loop in
+    sym (l .inv .1 ∙ all-stop (inClass (c .before .before .before .before .before .before .before .args .t2)) (c .before .before .before .before .before .before .before .args .s .now) (l .i) (c .before .before .before .before .loop-test .taken) (sym (c .before .in-class .ensures) ∙ not-true _ (c .if1 .taken)))
 
 add-i : tie.Need-add-i Inv-loop μ-loop
 add-i c = search needs
@@ -38,11 +38,11 @@ loop-less c = search needs
 
 loop-again : tie.Need-loop-again Inv-loop μ-loop
 loop-again c =
-    let l = c .before .before .before .before .loop in
-    (omega arith, l .inv .1 ∙ all-go (inClass (c .before .before .before .before .before .before .args .class)) (c .before .before .before .before .before .before .args .s .now) (l .i) (c .before .before .before .loop-test .taken) (sym (c .before .in-class .ensures) ∙ not-false _ (c .if1 .left)))
+    let l = c .before .before .before .before .before .loop in
+    (omega arith, l .inv .1 ∙ all-go (inClass (c .before .before .before .before .before .before .before .args .t2)) (c .before .before .before .before .before .before .before .args .s .now) (l .i) (c .before .before .before .before .loop-test .taken) (sym (c .before .in-class .ensures) ∙ not-false _ (c .if1 .left)))
 
 returns-2 : tie.Need-returns-2 Inv-loop μ-loop
-returns-2 c = sym (c .before .loop .inv .1 ∙ all-end (inClass (c .before .before .before .args .class)) (c .before .before .before .args .s .now) (c .before .loop .i) (c .loop-test .left))
+returns-2 c = sym (c .before .loop .inv .1 ∙ all-end (inClass (c .before .before .before .args .t2)) (c .before .before .before .args .s .now) (c .before .loop .i) (c .loop-test .left))
 
 pub all-in-spec : {M : Type 1} → statement M
 all-in-spec =

@@ -26,7 +26,7 @@ use Rattle.job_read.specs.declared.reader.TextAnswer.the-variants as tex
 unfoldable pub asked : List ℕ → Asked
 asked s = pick (opens (text "job=list\n") s) jobs.List (pick (opens (text "job=assemble\n") s) jobs.Assemble jobs.Other)
 
--- what the lent arrays hold of inputs: both tables by opcode, its strings' bytes and their ends
+-- what the lent arrays hold of the inputs: both tables by opcode, the strings' bytes and their ends
 pub record Holds (e : JobInputs) (types infos : List (List ℕ)) (bytes ends : List ℕ) : Type 0 where
   pub type-rows : types ≡ typeRows (e .opcodes)
   pub info-rows : infos ≡ infoRows (e .opcodes)

@@ -13,13 +13,13 @@ use Rattle.spec_sheet.specs.Sheet.SheetRead.{sheet, malformed}
 use Rattle.spec_job.specs.Table.{TableRead, onHex, keyedHexAt, tableAt}
 use Rattle.spec_job.specs.Table.TableRead.{table, faultAfter}
 
--- inputs as it stands in a job: the sheet's opcodes, whose names are places of the job, and its string table
+-- the inputs as they stand in a job: the sheet's opcodes, whose names are places of the job, and its string table
 pub record JobInputs : Type 0 where
   pub opcodes : List Op
   pub bytes : List ℕ
   pub ends : List ℕ
 
--- inputs, the place behind it and the number of the line there; or the malformed line, "numbered in the job"
+-- the inputs, the place behind them and the number of the line there; or the malformed line, "numbered in the job"
 pub data InputsRead : Type 0 where
   inputs : JobInputs → ℕ → ℕ → InputsRead
   badInputs : ℕ → InputsRead

@@ -3,7 +3,8 @@
  * A slice is a pointer and a count of elements, in this order; a count of 0 may come with a null pointer.
  * The caller's duties, which no proof sees: each pointer is valid for its count and aligned for its type; a buffer that is
  * written (out, entries, labels) overlaps no other buffer of the call; nothing else touches the buffers during the call.
- * There is no state between calls and no allocation.
+ * There is no state between calls and no allocation. A call uses its thread's stack: decoding and encoding some 12 KiB,
+ * listing and assembling some 600 KiB, whatever the inputs are (measured up to their limits, docs/SPEED.md has the figures).
  *
  * Each function answers four numbers. After success number, place and operand are 0 and length counts what was written.
  * After a refusal number says why (README.md has the table), place where, operand which (from 1, 0 for none), and length
@@ -71,7 +72,7 @@ struct desk_answer desk_list_module(const uint8_t *sheet, size_t sheet_len, cons
                                     uint32_t *entries, size_t entries_len);
 
 /* Assembles a text into a body. length counts the bytes, and a refusal's place is the text's line. One label entry of
-   three words is needed for each label line that an instruction takes. About 600 KiB of stack are used. */
+   three words is needed for each label line that an instruction takes. */
 struct desk_answer desk_assemble(const uint8_t *sheet, size_t sheet_len, const uint8_t *bytes, size_t bytes_len,
                                  const uint32_t *ends, size_t ends_len, const uint8_t *text, size_t text_len,
                                  uint8_t *out, size_t out_len, uint32_t (*labels)[3], size_t labels_len);

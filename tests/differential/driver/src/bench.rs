@@ -339,6 +339,8 @@ pub fn run(part: &str) {
         }
         large_tables();
         looked_up();
+    }
+    if wanted("stack") {
         stack::run();
     }
     if wanted("lookup") {

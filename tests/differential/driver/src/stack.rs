@@ -1,7 +1,8 @@
 // How much stack the desk uses: a thread's stack is filled with a mark below the caller, and searched after the call.
 
+use crate::areas::Area;
 use crate::assemble::Table;
-use crate::desk::{self, Answer};
+use crate::desk::{self, Answer, Shown};
 use crate::rust::{refusal, success};
 use crate::sheets;
 
@@ -43,29 +44,75 @@ fn largest() -> String {
     text + &"\n".repeat(rest)
 }
 
-/// The stack of one call that lends so many bytes and label entries, and what it answers.
-fn measured(what: &str, table: &Table, text: &str, room: usize, lent: usize, expected: Answer) {
-    let sheet = sheets::of_document();
-    let (mut out, mut entries) = (vec![0u8; room], vec![[0u32; 3]; lent]);
+/// The stack of one call, which has to answer as expected.
+fn measured(what: &str, expected: Answer, call: impl FnOnce() -> Answer + Send) {
     let mut answer = success(0);
-    let work = || {
-        used_by(|| {
-            answer = desk::assemble(&sheet.text, &table.bytes, &table.ends, text.as_bytes(), &mut out, &mut entries);
-        })
-    };
+    let work = || used_by(|| answer = call());
     let thread = std::thread::Builder::new().stack_size(SPACE);
     let used = std::thread::scope(|s| thread.spawn_scoped(s, work).unwrap().join().unwrap());
-    assert!(answer == expected, "{answer:?}");
-    println!("| {what} | {} | {} | {room} | {used} |", text.len(), table.strings.len());
+    assert!(answer == expected, "{what}: {answer:?}");
+    println!("| {what} | {used} |");
+}
+
+/// Assembling a text under document 01's sheet, with so many bytes and label entries lent.
+fn assembled(what: &str, table: &Table, text: &str, room: usize, lent: usize, expected: Answer) {
+    let sheet = sheets::of_document();
+    let (mut out, mut entries) = (vec![0u8; room], vec![[0u32; 3]; lent]);
+    measured(what, expected, || desk::assemble(&sheet.text, &table.bytes, &table.ends, text.as_bytes(), &mut out, &mut entries));
+}
+
+/// A body of so many jumps by 127, whose labels lie apart and, at its end, far outside.
+fn jumps(count: usize) -> Vec<u8> {
+    [1, 127].repeat(count)
+}
+
+/// The operations on bodies, of which the largest has 65,536 bytes, as a body and as the one function of an area.
+fn on_body(what: &str, count: usize) {
+    let sheet = sheets::of_document();
+    let body = jumps(count);
+    let shown = Shown { offsets: true, labels: true, texts: true };
+    let area = Area { functions: vec![0, body.len() as u32, 0], bytes: body.clone(), base: 0 };
+    let mut words = vec![0u64; 20 * count];
+    let mut text = vec![0u8; 1 << 20];
+    let mut entries = vec![0u32; 1 << 16];
+    let mut bytes = vec![0u8; body.len()];
+    measured(&format!("desk_decode, {what}"), success(count), || desk::decode(&sheet.text, &body, &mut words));
+    measured(&format!("desk_decode_function, {what}"), success(count), || desk::decode_function(&sheet.text, &area, 0, &mut words));
+    measured(&format!("desk_encode, {what}"), success(body.len()), || desk::encode(&sheet.text, &words, &mut bytes));
+    let length = desk::list(&sheet.text, &[], &[], &body, shown, &mut text, &mut entries).length as usize;
+    measured(&format!("desk_list, {what}"), success(length), || desk::list(&sheet.text, &[], &[], &body, shown, &mut text, &mut entries));
+    measured(&format!("desk_list_function, {what}"), success(length), || {
+        desk::list_function(&sheet.text, &[], &[], &area, 0, shown, &mut text, &mut entries)
+    });
+    let module = desk::list_module(&sheet.text, &[], &[], &area, shown, &mut text, &mut entries).length as usize;
+    measured(&format!("desk_list_module, {what}"), success(module), || {
+        desk::list_module(&sheet.text, &[], &[], &area, shown, &mut text, &mut entries)
+    });
+}
+
+/// Listing long jumps whose targets lie all over the range, far outside of the body, where labels are counted by parting.
+fn far_labels() {
+    let sheet = b"version=1\ncount=1\nop=0 name=JmpLong jump=1 types=Addr32\n";
+    let jump = |n: u32| [&[0u8][..], &(n.wrapping_mul(0x9e37_79b1) >> 1).to_le_bytes()].concat();
+    let body: Vec<u8> = (0..13_107).flat_map(jump).collect();
+    let shown = Shown { offsets: true, labels: true, texts: true };
+    let (mut text, mut entries) = (vec![0u8; 1 << 20], vec![0u32; 1 << 16]);
+    let length = desk::list(sheet, &[], &[], &body, shown, &mut text, &mut entries).length as usize;
+    measured("desk_list, 13,107 labels far outside", success(length), || desk::list(sheet, &[], &[], &body, shown, &mut text, &mut entries));
 }
 
 pub fn run() {
-    println!("\nStack of desk_assemble, by the bytes it leaves changed below its caller\n");
-    println!("| | text | strings | lent bytes | stack, bytes |\n|---|---|---|---|---|");
+    println!("\nStack of each function, by the bytes it leaves changed below its caller\n");
+    println!("| call | stack, bytes |\n|---|---|");
+    on_body("an empty body", 0);
+    on_body("2 bytes", 1);
+    on_body("4,096 bytes", 2048);
+    on_body("65,536 bytes", 32_768);
+    far_labels();
     let none = Table::new(Vec::new());
     let many = Table::new((0..65_535).map(|n| format!("s{n}")).chain([quotes()]).collect());
-    measured("nothing", &none, "", 0, 0, success(0));
-    measured("one line", &none, "Ret r1\n", 2, 0, success(2));
-    measured("at the limits", &many, &largest(), 65_536, 8190, success(65_536));
-    measured("at the limits, no label entries", &many, &largest(), 65_536, 0, refusal(19, 0, 0));
+    assembled("desk_assemble, nothing", &none, "", 0, 0, success(0));
+    assembled("desk_assemble, one line", &none, "Ret r1\n", 2, 0, success(2));
+    assembled("desk_assemble, at the limits", &many, &largest(), 65_536, 8190, success(65_536));
+    assembled("desk_assemble, at the limits, no label entries", &many, &largest(), 65_536, 0, refusal(19, 0, 0));
 }

@@ -1,6 +1,5 @@
 -- One line of a text, written. Assumes nothing.
-use mathlib.Core.Path.{_≡_, refl, ap, sym, _∙_}
-use mathlib.Core.Bool.{false}
+use mathlib.Core.Path.{_≡_, ap, sym, _∙_}
 use mathlib.Core.List.{List}
 use Prim.Native.Nat.{ℕ, _+_, _-_, _≤_}
 use native.Mathlib.Omega.{arith}
@@ -15,33 +14,31 @@ use Rattle.hasm_read.specs.Statements.{StatementIn}
 use Rattle.hasm_read.specs.declared.statement.Statement.the-variants as read
 use Rattle.hasm_labels.proofs.LineTurns.{was-nothing, was-label, was-code}
 use Rattle.assemble.specs.BodyPuts.{InstructionPut}
-use Rattle.assemble.specs.BodyPuts.InstructionPut.{whole, refused}
 use Rattle.assemble.specs.Going.{Going, LineAt, Turned}
-use Rattle.assemble.specs.Going.Turned.{onward, halted}
-use Rattle.assemble.specs.declared.instruction.Progress.{Progress}
+use Rattle.assemble.specs.declared.operands.Place.{Place}
+use Rattle.assemble.specs.declared.instruction.Step.{Step}
+use Rattle.assemble.specs.declared.instruction.Step.the-variants.{On, Refused}
 use Rattle.assemble.proofs.BodyLoop.{body-nothing, body-label, body-written, body-refused}
 
 -- a part of a line is no longer
 pub part-short : (l line : List ℕ) (a b m : ℕ) → l ≡ line → length line ≤ m → length (take (b - a) (drop a l)) ≤ m
 part-short l line a b m i h = rw (length-take, length-drop, i) (omega arith)
 
-module _ (e : Context) (labels : List ℕ → Found) (s : List ℕ) (at end o : ℕ) (h : LineAt s at end o) (l : List ℕ) (i : l ≡ lineIn s at end) {out₀ out : List ℕ} {k n : ℕ} (g : Going e labels s out₀ out k at n o) where
-  abbrev stays : Progress
-  stays = record { k = k; offset = o; stopped = false; number = 0; operand = 0 }
+module _ (e : Context) (labels : List ℕ → Found) (s : List ℕ) (at end : ℕ) (place : Place) (h : LineAt s at end (place .offset)) (l : List ℕ) (i : l ≡ lineIn s at end)
+    {out₀ out : List ℕ} {n : ℕ} (g : Going e labels s out₀ out at n place) where
+  pub turn-nothing : StatementIn (statementOf e l) l read.Nothing → Turned e labels s out₀ out (end + 1) n place (On place)
+  turn-nothing r = (body-nothing e labels g end (h .inside) (h .ends) (rw i at (was-nothing (statementOf e l) l r)), omega arith)
 
-  pub turn-nothing : StatementIn (statementOf e l) l read.Nothing → Turned e labels s out₀ out (end + 1) n stays
-  turn-nothing r = onward refl (body-nothing e labels g end (h .inside) (h .ends) (rw i at (was-nothing (statementOf e l) l r)))
-
-  pub turn-label : (a m : ℕ) → StatementIn (statementOf e l) l (read.Label a m) → Turned e labels s out₀ out (end + 1) n stays
+  pub turn-label : (a m : ℕ) → StatementIn (statementOf e l) l (read.Label a m) → Turned e labels s out₀ out (end + 1) n place (On place)
   turn-label a m r =
       let x : statementOf e (lineIn s at end) ≡ labelled (part l a m) = ap (statementOf e) (sym i) ∙ was-label (statementOf e l) l a m r .0 in
-      onward refl (body-label e labels g end (h .inside) (h .ends) (part l a m) x)
+      (body-label e labels g end (h .inside) (h .ends) (part l a m) x, omega arith)
 
-  pub turn-code : (a b : ℕ) → StatementIn (statementOf e l) l (read.Instruction a b) → {out′ : List ℕ} {p : Progress} → InstructionPut e labels (part l a (b - a)) o out k out′ p
-      → Turned e labels s out₀ out′ (end + 1) n p
-  turn-code a b r {out′} {p} (whole bs w st of put) =
-      let x : statementOf e (lineIn s at end) ≡ instruction (part l a (b - a)) = ap (statementOf e) (sym i) ∙ was-code (statementOf e l) l a b r .0 in
-      onward st (rw of (body-written e labels g end (h .inside) (h .ends) (part l a (b - a)) x bs out′ (p .k) w put))
-  turn-code a b r (refused w st same) =
-      let x : statementOf e (lineIn s at end) ≡ instruction (part l a (b - a)) = ap (statementOf e) (sym i) ∙ was-code (statementOf e l) l a b r .0 in
-      halted st (body-refused e labels g end (h .inside) (h .ends) (part l a (b - a)) x _ _ w)
+  pub turn-code : (a b : ℕ) → StatementIn (statementOf e l) l (read.Instruction a b) → (out′ : List ℕ) (r : Step) → InstructionPut e labels (part l a (b - a)) place out out′ r
+      → Turned e labels s out₀ out′ (end + 1) n place r
+  turn-code a b u out′ (On next) w =
+      let x : statementOf e (lineIn s at end) ≡ instruction (part l a (b - a)) = ap (statementOf e) (sym i) ∙ was-code (statementOf e l) l a b u .0 in
+      (body-written e labels g end (h .inside) (h .ends) (part l a (b - a)) x (w .bytes) out′ next (w .operands) (w .put) (w .offset), w .near)
+  turn-code a b u out′ (Refused f operand) w =
+      let x : statementOf e (lineIn s at end) ≡ instruction (part l a (b - a)) = ap (statementOf e) (sym i) ∙ was-code (statementOf e l) l a b u .0 in
+      body-refused e labels g end (h .inside) (h .ends) (part l a (b - a)) x f operand w

@@ -10,7 +10,8 @@ use borrow.Author.Tests.{eq-eqb, ne-eqb}
 use Rattle.lists.specs.Found as search
 use Rattle.lists.specs.Scan.{part}
 use Rattle.lists.specs.Write.{Put, top}
-use Rattle.lists.proofs.Writes.{_then_, same-piece, wrote-none, kept-length}
+use Rattle.lists.proofs.Writes.{_then_, same-piece, wrote-none}
+use Rattle.answers.specs.declared.refusal.OperandFault.{OperandFault}
 use Rattle.spec_numbers.specs.LittleEndian.{leBytes}
 use Rattle.spec_sheet.specs.Types.{widthOf}
 use Rattle.spec_inputs.specs.Context.{Context}
@@ -25,9 +26,7 @@ use Rattle.hasm_read.specs.Commas.{commaAt}
 use Rattle.hasm_tokens.specs.Values.{tokenAnswer}
 use Rattle.hasm_tokens.specs.declared.number_token.Value.{Value}
 use Rattle.hasm_tokens.specs.declared.number_token.Value.the-variants.{Bits, Refused}
-use Rattle.assemble.specs.declared.operands.Operands.the-variants as answer
-use Rattle.assemble.specs.OperandPuts.{OperandsPut}
-use Rattle.assemble.specs.OperandPuts.OperandsPut.{whole, stopped}
+use Rattle.assemble.specs.OperandPuts.{AllPut}
 use Rattle.assemble.proofs.ValueLaws.{value-bits, value-refused}
 use Rattle.assemble.proofs.TokenPlaces.{token-here, tokens-behind}
 
@@ -35,20 +34,20 @@ use Rattle.assemble.proofs.TokenPlaces.{token-here, tokens-behind}
 prepend-none : (x : definition.Operands) → prepend [] x ≡ x
 unfolding prepend
 prepend-none (written bs) = refl
-prepend-none (refusedOperand number operand) = refl
+prepend-none (refusedOperand f operand) = refl
 
 prepend-two : (front bs : List ℕ) (x : definition.Operands) → prepend front (prepend bs x) ≡ prepend (front ++ bs) x
 unfolding prepend
 prepend-two front bs (written cs) = ap written (sym (append-assoc front bs cs))
-prepend-two front bs (refusedOperand number operand) = refl
+prepend-two front bs (refusedOperand f operand) = refl
 
 prepend-end : (front : List ℕ) → prepend front (written []) ≡ written front
 unfolding prepend
 prepend-end front = ap written (append-nil front)
 
-prepend-refused : (front : List ℕ) (number operand : ℕ) → prepend front (refusedOperand number operand) ≡ refusedOperand number operand
+prepend-refused : (front : List ℕ) (f : OperandFault) (operand : ℕ) → prepend front (refusedOperand f operand) ≡ refusedOperand f operand
 unfolding prepend
-prepend-refused front number operand = refl
+prepend-refused front f operand = refl
 
 -- one operand first: a value, a refusal, or none
 module _ (e : Context) (labels : List ℕ → search.Found) (at n code : ℕ) (codes : List ℕ) (ts : List (List ℕ)) where
@@ -57,10 +56,10 @@ module _ (e : Context) (labels : List ℕ → search.Found) (at n code : ℕ) (c
   unfolding operandsFrom onValue
   first-bits bits z v = rw (ne-eqb code 0 z, v, operandsFrom)
 
-  first-refused : (number : ℕ) → (code ≡ 0 → ⊥) → tokenValue (e .bytes) (e .ends) labels at code (getD ts 0 []) ≡ refused number
-      → operandsFrom e labels at n (code ∷ codes) ts ≡ refusedOperand number n
+  first-refused : (f : OperandFault) → (code ≡ 0 → ⊥) → tokenValue (e .bytes) (e .ends) labels at code (getD ts 0 []) ≡ refused f
+      → operandsFrom e labels at n (code ∷ codes) ts ≡ refusedOperand f n
   unfolding operandsFrom onValue
-  first-refused number z v = rw (ne-eqb code 0 z, v, operandsFrom)
+  first-refused f z v = rw (ne-eqb code 0 z, v, operandsFrom)
 
   first-none : code ≡ 0 → operandsFrom e labels at n (code ∷ codes) ts ≡ written []
   unfolding operandsFrom
@@ -92,19 +91,19 @@ module _ {e : Context} {labels : List ℕ → search.Found} {offset : ℕ} {s ro
 
   module _ {out : List ℕ} {n p i : ℕ} (g : Going e labels offset s row out₀ k out n p i) where
     -- a code 0 ends the row, and so do eight
-    pub at-zero : (code : ℕ) → i < 8 → code ≡ getD row i 0 → code ≡ 0 → OperandsPut (allIn e labels offset s row) out₀ k out (answer.Written n)
+    pub at-zero : (code : ℕ) → i < 8 → code ≡ getD row i 0 → code ≡ 0 → AllPut (allIn e labels offset s row) out₀ k out n
     at-zero code h c z =
         let r : i < length row = omega (arith, g .eight) in
         let d : operandsFrom e labels offset (suc i) (drop i row) (tokens (splitOutside (drop p s))) ≡ written [] =
         rw (drop-cons row i 0 r) (first-none e labels offset (suc i) (getD row i 0) (drop (suc i) row) _ (sym c ∙ z)) in
-        whole (g .bytes) n (g .rest ∙ ap (prepend (g .bytes)) d ∙ prepend-end (g .bytes)) refl (g .so-far)
+        record { bytes = g .bytes; whole = g .rest ∙ ap (prepend (g .bytes)) d ∙ prepend-end (g .bytes); put = g .so-far }
 
-    pub at-end : 8 ≤ i → OperandsPut (allIn e labels offset s row) out₀ k out (answer.Written n)
+    pub at-end : 8 ≤ i → AllPut (allIn e labels offset s row) out₀ k out n
     unfolding operandsFrom
     at-end h =
         let r : length row ≤ i = omega (arith, g .eight) in
         let d : operandsFrom e labels offset (suc i) (drop i row) (tokens (splitOutside (drop p s))) ≡ written [] = rw (drop-of-length-le row r) in
-        whole (g .bytes) n (g .rest ∙ ap (prepend (g .bytes)) d ∙ prepend-end (g .bytes)) refl (g .so-far)
+        record { bytes = g .bytes; whole = g .rest ∙ ap (prepend (g .bytes)) d ∙ prepend-end (g .bytes); put = g .so-far }
 
     -- the operand i, whose text ends at `end`
     module _ (code end : ℕ) (t : List ℕ) (v : Value) (h : i < 8) (c : code ≡ getD row i 0) (z : code ≡ 0 → ⊥)
@@ -132,11 +131,11 @@ module _ {e : Context} {labels : List ℕ → search.Found} {offset : ℕ} {s ro
             rest = g .rest ∙ ap (prepend (g .bytes)) d ∙ prepend-two (g .bytes) (leBytes (widthOf code) bits) _;
           }
 
-      pub refuses : (number operand : ℕ) → v ≡ Refused number → operand ≡ i + 1 → OperandsPut (allIn e labels offset s row) out₀ k out (answer.Refused number operand)
-      refuses number operand m j =
+      pub refuses : (f′ : OperandFault) (operand : ℕ) → v ≡ Refused f′ → operand ≡ i + 1 → allIn e labels offset s row ≡ refusedOperand f′ operand
+      refuses f′ operand m j =
           let r : i < length row = omega (arith, g .eight) in
           let ts = tokens (splitOutside (drop p s)) in
-          let x = value-refused _ number (sym value-here ∙ m) in
-          let d : operandsFrom e labels offset (suc i) (drop i row) ts ≡ refusedOperand number operand =
-          rw (j, add-one i, drop-cons row i 0 r) (first-refused e labels offset (suc i) (getD row i 0) (drop (suc i) row) ts number (λ y. z (c ∙ y)) x) in
-          stopped number operand (g .rest ∙ ap (prepend (g .bytes)) d ∙ prepend-refused (g .bytes) number operand) refl (kept-length (g .so-far))
+          let x = value-refused _ f′ (sym value-here ∙ m) in
+          let d : operandsFrom e labels offset (suc i) (drop i row) ts ≡ refusedOperand f′ operand =
+          rw (j, add-one i, drop-cons row i 0 r) (first-refused e labels offset (suc i) (getD row i 0) (drop (suc i) row) ts f′ (λ y. z (c ∙ y)) x) in
+          g .rest ∙ ap (prepend (g .bytes)) d ∙ prepend-refused (g .bytes) f′ operand

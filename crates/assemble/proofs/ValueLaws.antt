@@ -6,6 +6,8 @@ use native.Mathlib.Omega.{arith}
 use borrow.Author.Tests.{ne-eqb}
 use Rattle.lists.specs.Found as search
 use Rattle.lists.specs.Found.Found.{found, missing}
+use Rattle.answers.specs.declared.refusal.OperandFault.{OperandFault}
+use Rattle.answers.specs.declared.refusal.OperandFault.the-variants as fault
 use Rattle.spec_numbers.specs.TwosComplement.{wrapSub}
 use Rattle.spec_numbers.specs.Parse.{parseI32}
 use Rattle.spec_numbers.specs.Double.{readDouble}
@@ -41,12 +43,12 @@ module _ (bytes ends : List ℕ) (labels : List ℕ → search.Found) (offset co
   unfolding tokenValue
   of-address w e f g = rw (e, sym f) g
 
-  pub of-immediate : familyOf code ≡ 5 → v ≡ tokenAnswer (numberOr 11 (parseI32 t)) → v ≡ tokenAnswer (tokenValue bytes ends labels offset code t)
+  pub of-immediate : familyOf code ≡ 5 → v ≡ tokenAnswer (numberOr fault.Number (parseI32 t)) → v ≡ tokenAnswer (tokenValue bytes ends labels offset code t)
   unfolding tokenValue
   of-immediate e g = rw e g
 
   pub of-double : (familyOf code ≡ 1 → ⊥) → (familyOf code ≡ 2 → ⊥) → (familyOf code ≡ 3 → ⊥) → (familyOf code ≡ 4 → ⊥) → (familyOf code ≡ 5 → ⊥)
-      → v ≡ tokenAnswer (numberOr 12 (readDouble t)) → v ≡ tokenAnswer (tokenValue bytes ends labels offset code t)
+      → v ≡ tokenAnswer (numberOr fault.Double (readDouble t)) → v ≡ tokenAnswer (tokenValue bytes ends labels offset code t)
   unfolding tokenValue
   of-double n1 n2 n3 n4 n5 g =
       rw (ne-eqb (familyOf code) 1 n1, ne-eqb (familyOf code) 2 n2, ne-eqb (familyOf code) 3 n3, ne-eqb (familyOf code) 4 n4, ne-eqb (familyOf code) 5 n5) g
@@ -70,11 +72,11 @@ was-missing (found m) e = absurd (let z : _≡_ {A = ℕ} 0 1 = cc e in omega ar
 -- the distance to a label that was found, and to one that was not
 module _ (width offset : ℕ) (l : search.Found) where
   pub label-at : (n : ℕ) {v : Value} → offset < 2 ^ 32 → foundOf l ≡ At n → v ≡ tokenAnswer (distanceTo width offset (value (n % 2 ^ 32)))
-      → v ≡ tokenAnswer (distanceTo width offset (foundOr 7 l))
+      → v ≡ tokenAnswer (distanceTo width offset (foundOr fault.Address l))
   unfolding foundOr
   label-at n h e g = rw (was-at l n e) (g ∙ ap tokenAnswer (distance-low width offset n h))
 
-  pub label-missing : foundOf l ≡ Missing → Refused 7 ≡ tokenAnswer (distanceTo width offset (foundOr 7 l))
+  pub label-missing : foundOf l ≡ Missing → Refused fault.Address ≡ tokenAnswer (distanceTo width offset (foundOr fault.Address l))
   unfolding distanceTo foundOr
   label-missing e = rw (was-missing l e)
 
@@ -88,18 +90,18 @@ module _ (t : List ℕ) (width offset : ℕ) (r : Target) (h : (labels : List �
   to-offset n e g = g ∙ sym (by-target (target.Offset n) e)
 
   pub to-label : {f : Found} {v : Value} → r ≡ target.Label → f ≡ foundOf (labels t)
-      → ((l : search.Found) → f ≡ foundOf l → v ≡ tokenAnswer (distanceTo width offset (foundOr 7 l))) → v ≡ tokenAnswer (distanceTo width offset (targetIn labels t))
+      → ((l : search.Found) → f ≡ foundOf l → v ≡ tokenAnswer (distanceTo width offset (foundOr fault.Address l))) → v ≡ tokenAnswer (distanceTo width offset (targetIn labels t))
   to-label e f g = g (labels t) f ∙ sym (by-target target.Label e)
 
-  pub to-none : r ≡ target.Bad → Refused 7 ≡ tokenAnswer (distanceTo width offset (targetIn labels t))
+  pub to-none : r ≡ target.Bad → Refused fault.Address ≡ tokenAnswer (distanceTo width offset (targetIn labels t))
   unfolding distanceTo
   to-none e = sym (by-target target.Bad e)
 
 -- a token's value that is bits, or a refusal
 pub value-bits : (x : definition.Value) (n : ℕ) → tokenAnswer x ≡ Bits n → x ≡ value n
 value-bits (value m) n e = ap value (cc e)
-value-bits (refused m) n e = absurd (let z : _≡_ {A = ℕ} 0 1 = cc e in omega arith)
+value-bits (refused f) n e = absurd (let z : _≡_ {A = ℕ} 0 1 = cc e in omega arith)
 
-pub value-refused : (x : definition.Value) (n : ℕ) → tokenAnswer x ≡ Refused n → x ≡ refused n
-value-refused (refused m) n e = ap refused (cc e)
-value-refused (value m) n e = absurd (let z : _≡_ {A = ℕ} 0 1 = cc e in omega arith)
+pub value-refused : (x : definition.Value) (f : OperandFault) → tokenAnswer x ≡ Refused f → x ≡ refused f
+value-refused (refused g) f e = ap refused (cc e)
+value-refused (value m) f e = absurd (let z : _≡_ {A = ℕ} 0 1 = cc e in omega arith)

@@ -2,14 +2,19 @@
 use mathlib.Core.Path.{_≡_}
 use mathlib.Core.List.{List}
 use Prim.Native.Nat.{ℕ}
-use lib.ListN.{length}
 use Rattle.lists.specs.Write.{Put}
 use Rattle.spec_hasm.specs.Assemble.{Assembled}
-use Rattle.spec_hasm.specs.Assemble.Assembled.{assembled, refusedAt}
+use Rattle.spec_hasm.specs.Assemble.Assembled.{assembled, notAssembled}
 use Rattle.assemble.specs.declared.body.Bytes.{Bytes}
-use Rattle.assemble.specs.declared.body.Bytes.the-variants as answer
+use Rattle.assemble.specs.declared.body.Bytes.the-variants.{Written, Refused}
 
--- a text's instructions x were written, or one is refused
-pub data BytesPut (x : Assembled) (out out′ : List ℕ) (r : Bytes) : Type 0 where
-  whole : (bs : List ℕ) (k : ℕ) → x ≡ assembled bs → r ≡ answer.Written k → Put out 0 bs out′ k → BytesPut x out out′ r
-  refused : (number line operand : ℕ) → x ≡ refusedAt number line operand → r ≡ answer.Refused number line operand → length out′ ≡ length out → BytesPut x out out′ r
+-- a text's instructions x were written, k bytes of them
+pub record BodyPut (x : Assembled) (out out′ : List ℕ) (k : ℕ) : Type 0 where
+  pub bytes : List ℕ
+  pub whole : x ≡ assembled bytes
+  pub put : Put out 0 bytes out′ k
+
+-- or one is refused
+abbrev pub BytesPut : Assembled → List ℕ → List ℕ → Bytes → Type 0
+BytesPut x out out′ (Written k) = BodyPut x out out′ k
+BytesPut x out out′ (Refused y) = x ≡ notAssembled y

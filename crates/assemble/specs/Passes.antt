@@ -3,16 +3,16 @@ use mathlib.Core.Path.{_≡_}
 use mathlib.Core.List.{List}
 use Prim.Native.Nat.{ℕ, _+_, _≤_, _<_}
 use lib.ListN.{length, take}
-use Rattle.spec_answers.specs.Outcome.{Outcome}
+use Rattle.answers.specs.Outcome.{Outcome}
 use Rattle.spec_inputs.specs.Context.{Context, contextFrom}
 use Rattle.spec_hasm.specs.Assemble.{Assembled, codesOf, unlessBadName, labelsFrom, assembleText, assembleEntries}
 use Rattle.spec_hasm.specs.Operation.{assembleOutcome}
 use Rattle.hasm_labels.specs.Slots.{labelsIn}
-use Rattle.strings.specs.Keys.{textBuckets}
+use Rattle.strings.specs.Keys.{textBuckets, TextsIndexed}
 
--- what a text evaluates to where `lent` label entries are lent
-abbrev pub textOutcome : Context → List ℕ → ℕ → Outcome
-textOutcome e text lent = assembleOutcome lent (assembleEntries e text) (assembleText e text)
+-- what a text evaluates to
+abbrev pub textOutcome : Context → List ℕ → Outcome
+textOutcome e text = assembleOutcome (assembleEntries e text) (assembleText e text)
 
 -- neither 4 nor 5 refuses a line; `count` labels are taken, and the slots hold them where all fit
 pub record Named (e : Context) (text : List ℕ) (count : ℕ) (slots : List (List ℕ)) : Type 0 where
@@ -29,3 +29,8 @@ pub record IdSpace (ids ends : List ℕ) : Type 0 where
   pub some : 0 < textBuckets ids
   pub each : textBuckets ids + length ends ≤ length ids
   pub few : length ends ≤ 65536
+
+-- that space behind the passes: it holds the index, or is as it was, where a pass before the writing refused the text
+pub data IdsLeft (bytes ends before after : List ℕ) : Type 0 where
+  filled : TextsIndexed bytes ends after → IdsLeft bytes ends before after
+  kept : after ≡ before → IdsLeft bytes ends before after

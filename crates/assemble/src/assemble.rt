@@ -1,13 +1,13 @@
 // Assembling a text.
 ghost use mathlib.Core.Path.{_≡_};
 ghost use mathlib.Core.List.{[], _∷_};
-ghost use Prim.Native.Nat.{_≤_};
-ghost use lib.ListN.{length, replicate};
+ghost use lib.ListN.{length};
+ghost use Rattle.answers.specs.Report.{cleared};
+ghost use Rattle.answers.specs.Outcome.{Ended};
 ghost use Rattle.spec_hasm.specs.Operation as operation;
-ghost use Rattle.spec_inputs.specs.Context.{contextFrom};
-ghost use Rattle.assemble.specs.Answers.{Ended};
-ghost use Rattle.assemble.specs.Passes.{textOutcome, IdSpace};
+ghost use Rattle.assemble.specs.Answers.{assembleReport};
 use crate::answer::AssembleAnswer;
+use answers::refusal::Refusal;
 use hasm_labels::label_entry::Slot;
 use operation::inputs::Inputs;
 use slices::clearing::clear_labels;
@@ -34,22 +34,22 @@ pub fn assemble(
     out: &mut [u8],
     labels: &mut [Slot],
 ) -> AssembleAnswer
-    ensures { λ r. ⌜ Ended (operation.assemble (now (sheet .entry)) (now (bytes .entry)) (now (ends .entry)) (now (text .entry)) (length (now (labels .entry)))) (now (out .entry)) (now (out .exit)) r ⌝ }
-    ensures { λ _. ⌜ now (labels .exit) ≡ replicate (length (now (labels .entry))) (0 ∷ 0 ∷ 0 ∷ []) ⌝ }
+    ensures { λ r. ⌜ Ended (operation.assemble (now (sheet .entry)) (now (bytes .entry)) (now (ends .entry)) (now (text .entry))) (now (out .entry)) (length (now (labels .entry)) ∷ []) (now (out .exit)) (assembleReport r) ⌝ }
+    ensures { λ _. ⌜ now (labels .exit) ≡ cleared (0 ∷ 0 ∷ 0 ∷ []) (now (labels .entry)) ⌝ }
 {
     if limits::TEXT_LIMIT < text.len() {
         clear(out);
         clear_labels(labels);
-        return AssembleAnswer::TooLarge;
+        return AssembleAnswer::Refused(Refusal::TooLarge);
     }
     let mut types = [[0u8; 8]; 256];
     let mut ops = [[0usize; 4]; 256];
     let i = operation::inputs::read_inputs(sheet, bytes, ends, &mut types, &mut ops);
-    let Inputs::Ready(_) = i else {
+    if let Inputs::Refused(x) = i {
         clear(out);
         clear_labels(labels);
-        return crate::answer::refused_inputs(i);
-    };
+        return AssembleAnswer::Refused(x);
+    }
     if ends.len() <= FEW_STRINGS {
         let mut few = few_ids();
         return crate::passes::assemble_under(

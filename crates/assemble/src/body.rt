@@ -10,17 +10,19 @@ ghost use Rattle.assemble.specs.Contexts.{labelsOf, LabelsKnown};
 ghost use Rattle.spec_inputs.specs.Context.{contextFrom};
 ghost use Rattle.assemble.specs.Bodies.{BytesPut};
 use crate::instruction::Span;
+use crate::instruction::Step;
 use crate::operands::Place;
+use answers::refusal::Refusal;
 use hasm_labels::label_entry::Slot;
 
-// The length of the body; or the number, the line and the operand that refuse it.
+// The length of the body, or the refusal of an operand, 6 to 12.
 pub enum Bytes {
     Written(usize),
-    Refused(u64, usize, usize),
+    Refused(Refusal),
 }
 
 // Writes the instructions of a text whose lines and names are good.
-pub fn put_instructions(
+pub(crate) fn put_instructions(
     bytes: &[u8],
     ends: &[u32],
     ids: &[u32],
@@ -39,15 +41,14 @@ pub fn put_instructions(
     requires { ⌜ ((rest : Assembled) → unlessBadLine 1 (linesOf (now text)) rest ≡ rest) ⌝ }
     ensures { λ r. ⌜ BytesPut (bytesFrom (contextFrom (now (sheet .entry)) (now (types .entry)) (now (ops .entry)) (now (bytes .entry)) (now (ends .entry))) (labelsOf (contextFrom (now (sheet .entry)) (now (types .entry)) (now (ops .entry)) (now (bytes .entry)) (now (ends .entry))) (now (text .entry))) 0 (codesOf (contextFrom (now (sheet .entry)) (now (types .entry)) (now (ops .entry)) (now (bytes .entry)) (now (ends .entry))) (now (text .entry)))) (now (out .entry)) (now (out .exit)) r ⌝ }
 {
-    let mut k: usize = 0;
-    let mut offset: usize = 0;
+    let mut place = Place { offset: 0, k: 0 };
     let mut at: usize = 0;
     let mut n: usize = 1;
     while at < text.len() {
         let end = hasm_read::lines::line_end(text, at);
-        let p = crate::instruction::put_line(
+        let step = crate::instruction::put_line(
             Span { at, end },
-            Place { offset, k },
+            place,
             bytes,
             ends,
             ids,
@@ -61,13 +62,16 @@ pub fn put_instructions(
             work,
             out,
         );
-        if p.stopped {
-            return Bytes::Refused(p.number, n, p.operand);
+        match step {
+            Step::On(next) => {
+                place = next;
+            }
+            Step::Refused(fault, operand) => {
+                return Bytes::Refused(Refusal::BadOperand(fault, n, operand));
+            }
         }
-        k = p.k;
-        offset = p.offset;
         at = end + 1;
         n += 1;
     }
-    Bytes::Written(k)
+    Bytes::Written(place.k)
 }

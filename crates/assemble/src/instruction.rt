@@ -14,18 +14,16 @@ ghost use Rattle.assemble.specs.BodyPuts.{InstructionPut};
 ghost use Rattle.assemble.specs.Going.{Going, LineAt, Turned};
 use crate::operands::Operands;
 use crate::operands::Place;
+use answers::refusal::OperandFault;
 use hasm_labels::label_entry::Slot;
 use hasm_read::statement::Statement;
 use slices::search::Found;
 use slices::write::put_byte;
 
-// Where the output and the offset stand behind an instruction or a line; or that it is refused, by which number and operand.
-pub struct Progress {
-    pub k: usize,
-    pub offset: usize,
-    pub stopped: bool,
-    pub number: u64,
-    pub operand: usize,
+// The place behind an instruction or a line, or what is wrong with which operand.
+pub enum Step {
+    On(Place),
+    Refused(OperandFault, usize),
 }
 
 // A line by where it starts in the text, and where it ends.
@@ -45,7 +43,7 @@ fn opcode_in(f: Found) -> usize
 }
 
 // Writes the instruction whose name and operands are s at its place.
-pub fn put_instruction(
+pub(crate) fn put_instruction(
     s: &[u8],
     place: Place,
     bytes: &[u8],
@@ -60,27 +58,17 @@ pub fn put_instruction(
     fits: bool,
     work: &mut [u8],
     out: &mut [u8],
-) -> Progress
+) -> Step
     requires { ⌜ TextsIndexed (now bytes) (now ends) (now ids) × (length (now s) ≤ lineLimit) × (lineLimit ≤ length (now work)) ⌝ }
     requires { ⌜ (place .offset < 2147483648) × LabelsKnown (now text) (now sheet) (now types) (now ops) (now names) (now labels) fits ⌝ }
-    ensures { λ r. ⌜ InstructionPut (contextFrom (now (sheet .entry)) (now (types .entry)) (now (ops .entry)) (now (bytes .entry)) (now (ends .entry))) (labelsOf (contextFrom (now (sheet .entry)) (now (types .entry)) (now (ops .entry)) (now (bytes .entry)) (now (ends .entry))) (now (text .entry))) (now (s .entry)) (place .offset) (now (out .entry)) (place .k) (now (out .exit)) r ⌝ }
-    ensures { λ r. ⌜ r .offset ≤ place .offset + 65 ⌝ }
+    ensures { λ r. ⌜ InstructionPut (contextFrom (now (sheet .entry)) (now (types .entry)) (now (ops .entry)) (now (bytes .entry)) (now (ends .entry))) (labelsOf (contextFrom (now (sheet .entry)) (now (types .entry)) (now (ops .entry)) (now (bytes .entry)) (now (ends .entry))) (now (text .entry))) (now (s .entry)) place (now (out .entry)) (now (out .exit)) r ⌝ }
 {
     let offset = place.offset;
     let k = place.k;
     let n = hasm_read::white_space::skip(s, 0, false);
     let opcode = opcode_in(sheet::name_index::find_indexed(sheet, ops, names, &s[0..n]));
-    // An opcode that was found has a row, so this test only shows that it is below 256.
-    let rows: &[[usize; 4]] = ops;
-    if rows.len() <= opcode {
-        return Progress {
-            k,
-            offset,
-            stopped: true,
-            number: 4,
-            operand: 0,
-        };
-    }
+    // An opcode that was found has a row. Lent as a slice, the array tells the proof that there are 256 rows.
+    let _rows: &[[usize; 4]] = ops;
     let row = types[opcode];
     let a = hasm_read::white_space::skip(s, n, true);
     let b = put_byte(out, k, opcode as u8);
@@ -102,25 +90,16 @@ pub fn put_instruction(
         out,
     );
     match o {
-        Operands::Written(next) => Progress {
-            k: next,
+        Operands::Written(next) => Step::On(Place {
             offset: offset + sheet::row::instruction_length(row),
-            stopped: false,
-            number: 0,
-            operand: 0,
-        },
-        Operands::Refused(number, operand) => Progress {
-            k,
-            offset,
-            stopped: true,
-            number,
-            operand,
-        },
+            k: next,
+        }),
+        Operands::Refused(fault, operand) => Step::Refused(fault, operand),
     }
 }
 
 // Writes a line, if it is an instruction.
-pub fn put_line(
+pub(crate) fn put_line(
     span: Span,
     place: Place,
     bytes: &[u8],
@@ -135,29 +114,16 @@ pub fn put_line(
     fits: bool,
     work: &mut [u8],
     out: &mut [u8],
-) -> Progress
+) -> Step
     requires { ⌜ TextsIndexed (now bytes) (now ends) (now ids) × (lineLimit ≤ length (now work)) ⌝ }
     requires { ⌜ LineAt (now text) (span .at) (span .end) (place .offset) × LabelsKnown (now text) (now sheet) (now types) (now ops) (now names) (now labels) fits ⌝ }
-    ensures { λ r. ⌜ ((out₀ : List ℕ) (n : ℕ) → Going (contextFrom (now (sheet .entry)) (now (types .entry)) (now (ops .entry)) (now (bytes .entry)) (now (ends .entry))) (labelsOf (contextFrom (now (sheet .entry)) (now (types .entry)) (now (ops .entry)) (now (bytes .entry)) (now (ends .entry))) (now (text .entry))) (now (text .entry)) out₀ (now (out .entry)) (place .k) (span .at) n (place .offset) → Turned (contextFrom (now (sheet .entry)) (now (types .entry)) (now (ops .entry)) (now (bytes .entry)) (now (ends .entry))) (labelsOf (contextFrom (now (sheet .entry)) (now (types .entry)) (now (ops .entry)) (now (bytes .entry)) (now (ends .entry))) (now (text .entry))) (now (text .entry)) out₀ (now (out .exit)) (span .end + 1) n r) ⌝ }
-    ensures { λ r. ⌜ r .offset ≤ place .offset + 65 ⌝ }
+    ensures { λ r. ⌜ ((out₀ : List ℕ) (n : ℕ) → Going (contextFrom (now (sheet .entry)) (now (types .entry)) (now (ops .entry)) (now (bytes .entry)) (now (ends .entry))) (labelsOf (contextFrom (now (sheet .entry)) (now (types .entry)) (now (ops .entry)) (now (bytes .entry)) (now (ends .entry))) (now (text .entry))) (now (text .entry)) out₀ (now (out .entry)) (span .at) n place → Turned (contextFrom (now (sheet .entry)) (now (types .entry)) (now (ops .entry)) (now (bytes .entry)) (now (ends .entry))) (labelsOf (contextFrom (now (sheet .entry)) (now (types .entry)) (now (ops .entry)) (now (bytes .entry)) (now (ends .entry))) (now (text .entry))) (now (text .entry)) out₀ (now (out .exit)) (span .end + 1) n place r) ⌝ }
 {
     let line = hasm_read::lines::line_of(text, span.at, span.end);
     let statement = hasm_read::statement::read_statement(line, sheet, ops, names);
     match statement {
-        Statement::Nothing => Progress {
-            k: place.k,
-            offset: place.offset,
-            stopped: false,
-            number: 0,
-            operand: 0,
-        },
-        Statement::Label(_, _) => Progress {
-            k: place.k,
-            offset: place.offset,
-            stopped: false,
-            number: 0,
-            operand: 0,
-        },
+        Statement::Nothing => Step::On(place),
+        Statement::Label(_, _) => Step::On(place),
         Statement::Instruction(a, b) => put_instruction(
             &line[a..b],
             place,

@@ -10,13 +10,14 @@ ghost use Rattle.assemble.specs.OperandPuts.{OperandsPut};
 ghost use Rattle.assemble.specs.Contexts.{labelsOf, LabelsKnown};
 ghost use Rattle.spec_inputs.specs.Context.{contextFrom};
 use crate::token_operand::operand_value;
+use answers::refusal::OperandFault;
 use hasm_labels::label_entry::Slot;
 use hasm_tokens::number_token::Value;
 
-// The next place in the output, or the number that refuses an operand, and which one, counted from 1.
+// The next place in the output, or what is wrong with an operand, and which one, counted from 1.
 pub enum Operands {
     Written(usize),
-    Refused(u64, usize),
+    Refused(OperandFault, usize),
 }
 
 // Where an instruction stands: its offset, and the place of its bytes in the output.
@@ -34,7 +35,7 @@ fn behind_comma(end: usize, size: usize) -> usize
 }
 
 // Writes the operands that stand in s, whose types are the row's, from `place` on.
-pub fn put_operands(
+pub(crate) fn put_operands(
     s: &[u8],
     row: [u8; 8],
     place: Place,
@@ -86,8 +87,8 @@ pub fn put_operands(
             Value::Bits(bits) => {
                 n = numbers::io::put_le(out, n, sheet::operand_types::width(code), bits);
             }
-            Value::Refused(number) => {
-                return Operands::Refused(number, i + 1);
+            Value::Refused(fault) => {
+                return Operands::Refused(fault, i + 1);
             }
         }
         p = behind_comma(end, s.len());

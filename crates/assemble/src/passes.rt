@@ -2,19 +2,23 @@
 ghost use mathlib.Core.Path.{_≡_};
 ghost use mathlib.Core.List.{[], _∷_};
 ghost use Prim.Native.Nat.{_≤_};
-ghost use lib.ListN.{length, take, replicate};
+ghost use lib.ListN.{length, take};
+ghost use Rattle.answers.specs.Report.{cleared};
+ghost use Rattle.answers.specs.Outcome.{Ended};
 ghost use Rattle.limits.specs.Limits.{textLimit};
 ghost use Rattle.spec_hasm.specs.Text.{linesOf};
 ghost use Rattle.spec_hasm.specs.Assemble.{Assembled, unlessBadLine};
 ghost use Rattle.sheet.specs.Keys.{NamesIndexed};
+ghost use Rattle.strings.specs.Keys.{TextsIndexed};
 ghost use Rattle.spec_inputs.specs.Context.{contextFrom};
-ghost use Rattle.assemble.specs.Answers.{Ended};
-ghost use Rattle.assemble.specs.Passes.{textOutcome, IdSpace, NamesGood};
+ghost use Rattle.assemble.specs.Answers.{assembleReport};
+ghost use Rattle.assemble.specs.Passes.{textOutcome, IdSpace, IdsLeft, NamesGood};
 use crate::answer::AssembleAnswer;
 use crate::body::Bytes;
 use hasm_labels::label_entry::Slot;
 use hasm_labels::names_pass::Names;
 use hasm_read::lines::Checked;
+use slices::clearing::clear_labels;
 use slices::write::clear;
 
 // Space for the index of names. No contract, since what fills it says what it leaves.
@@ -49,7 +53,8 @@ fn put_indexed(
 ) -> AssembleAnswer
     requires { ⌜ IdSpace (now ids) (now ends) × (length (now text) ≤ textLimit) × NamesIndexed (now sheet) (now ops) (now names) ⌝ }
     requires { ⌜ NamesGood (now sheet) (now types) (now ops) (now text) count (now labels) × ((rest : Assembled) → unlessBadLine 1 (linesOf (now text)) rest ≡ rest) ⌝ }
-    ensures { λ r. ⌜ Ended (textOutcome (contextFrom (now (sheet .entry)) (now (types .entry)) (now (ops .entry)) (now (bytes .entry)) (now (ends .entry))) (now (text .entry)) (length (now (labels .entry)))) (now (out .entry)) (now (out .exit)) r ⌝ }
+    ensures { λ r. ⌜ Ended (textOutcome (contextFrom (now (sheet .entry)) (now (types .entry)) (now (ops .entry)) (now (bytes .entry)) (now (ends .entry))) (now (text .entry))) (now (out .entry)) (length (now (labels .entry)) ∷ []) (now (out .exit)) (assembleReport r) ⌝ }
+    ensures { λ _. ⌜ TextsIndexed (now (bytes .entry)) (now (ends .entry)) (now (ids .exit)) ⌝ }
 {
     strings::text_index::index_texts(bytes, ends, ids);
     let mut work = [0u8; limits::LINE_LIMIT];
@@ -74,9 +79,9 @@ fn put_indexed(
             let m = operation::ending::measure(k, limits::BODY_LIMIT, count, labels.len(), out);
             crate::answer::measured_answer(m, k)
         }
-        Bytes::Refused(number, line, operand) => {
+        Bytes::Refused(x) => {
             clear(out);
-            AssembleAnswer::Operand(number, line, operand)
+            AssembleAnswer::Refused(x)
         }
     }
 }
@@ -95,7 +100,9 @@ fn name_and_put(
 ) -> AssembleAnswer
     requires { ⌜ IdSpace (now ids) (now ends) × (length (now text) ≤ textLimit) ⌝ }
     requires { ⌜ ((rest : Assembled) → unlessBadLine 1 (linesOf (now text)) rest ≡ rest) ⌝ }
-    ensures { λ r. ⌜ Ended (textOutcome (contextFrom (now (sheet .entry)) (now (types .entry)) (now (ops .entry)) (now (bytes .entry)) (now (ends .entry))) (now (text .entry)) (length (now (labels .entry)))) (now (out .entry)) (now (out .exit)) r ⌝ }
+    ensures { λ r. ⌜ Ended (textOutcome (contextFrom (now (sheet .entry)) (now (types .entry)) (now (ops .entry)) (now (bytes .entry)) (now (ends .entry))) (now (text .entry))) (now (out .entry)) (length (now (labels .entry)) ∷ []) (now (out .exit)) (assembleReport r) ⌝ }
+    ensures { λ _. ⌜ now (labels .exit) ≡ cleared (0 ∷ 0 ∷ 0 ∷ []) (now (labels .entry)) ⌝ }
+    ensures { λ _. ⌜ IdsLeft (now (bytes .entry)) (now (ends .entry)) (now (ids .entry)) (now (ids .exit)) ⌝ }
 {
     let mut names = name_space();
     sheet::name_index::index_names(sheet, ops, &mut names);
@@ -105,61 +112,32 @@ fn name_and_put(
             count,
             has: _,
             offset: _,
-        } => put_indexed(
-            ids,
-            sheet,
-            types,
-            ops,
-            &names,
-            bytes,
-            ends,
-            text,
-            count,
-            labels,
-            out,
-        ),
-        Names::Unknown(line) => {
-            clear(out);
-            AssembleAnswer::Unknown(line)
+        } => {
+            let a = put_indexed(
+                ids,
+                sheet,
+                types,
+                ops,
+                &names,
+                bytes,
+                ends,
+                text,
+                count,
+                labels,
+                out,
+            );
+            clear_labels(labels);
+            a
         }
-        Names::Count(line) => {
+        Names::Refused(x) => {
             clear(out);
-            AssembleAnswer::Count(line)
-        }
-    }
-}
-
-// All passes over a text, under the tables of a sheet whose names are parts of `sheet`. The labels are left as they were used.
-pub fn assemble_text(
-    ids: &mut [u32],
-    sheet: &[u8],
-    types: &[[u8; 8]; 256],
-    ops: &[[usize; 4]; 256],
-    bytes: &[u8],
-    ends: &[u32],
-    text: &[u8],
-    out: &mut [u8],
-    labels: &mut [Slot],
-) -> AssembleAnswer
-    requires { ⌜ IdSpace (now ids) (now ends) × (length (now text) ≤ textLimit) ⌝ }
-    ensures { λ r. ⌜ Ended (textOutcome (contextFrom (now (sheet .entry)) (now (types .entry)) (now (ops .entry)) (now (bytes .entry)) (now (ends .entry))) (now (text .entry)) (length (now (labels .entry)))) (now (out .entry)) (now (out .exit)) r ⌝ }
-{
-    let c = hasm_read::lines::check_lines(text);
-    match c {
-        Checked::Good => name_and_put(ids, sheet, types, ops, bytes, ends, text, out, labels),
-        Checked::Long(line) => {
-            clear(out);
-            AssembleAnswer::Long(line)
-        }
-        Checked::Bad(line) => {
-            clear(out);
-            AssembleAnswer::BadByte(line)
+            AssembleAnswer::Refused(x)
         }
     }
 }
 
-// Assembles a text under the tables of a sheet, whose names are parts of `sheet`. The texts' index goes to `ids` and
-// is left there, in a form that nobody has to know.
+// Assembles a text under the tables of a sheet, whose names are parts of `sheet`. The texts' index is left in `ids`; where a line
+// or a name is refused, `ids` is left as it was.
 pub fn assemble_under(
     ids: &mut [u32],
     sheet: &[u8],
@@ -172,10 +150,17 @@ pub fn assemble_under(
     labels: &mut [Slot],
 ) -> AssembleAnswer
     requires { ⌜ IdSpace (now ids) (now ends) × (length (now text) ≤ textLimit) ⌝ }
-    ensures { λ r. ⌜ Ended (textOutcome (contextFrom (now (sheet .entry)) (now (types .entry)) (now (ops .entry)) (now (bytes .entry)) (now (ends .entry))) (now (text .entry)) (length (now (labels .entry)))) (now (out .entry)) (now (out .exit)) r ⌝ }
-    ensures { λ _. ⌜ now (labels .exit) ≡ replicate (length (now (labels .entry))) (0 ∷ 0 ∷ 0 ∷ []) ⌝ }
+    ensures { λ r. ⌜ Ended (textOutcome (contextFrom (now (sheet .entry)) (now (types .entry)) (now (ops .entry)) (now (bytes .entry)) (now (ends .entry))) (now (text .entry))) (now (out .entry)) (length (now (labels .entry)) ∷ []) (now (out .exit)) (assembleReport r) ⌝ }
+    ensures { λ _. ⌜ now (labels .exit) ≡ cleared (0 ∷ 0 ∷ 0 ∷ []) (now (labels .entry)) ⌝ }
+    ensures { λ _. ⌜ IdsLeft (now (bytes .entry)) (now (ends .entry)) (now (ids .entry)) (now (ids .exit)) ⌝ }
 {
-    let a = assemble_text(ids, sheet, types, ops, bytes, ends, text, out, labels);
-    slices::clearing::clear_labels(labels);
-    a
+    let c = hasm_read::lines::check_lines(text);
+    match c {
+        Checked::Good => name_and_put(ids, sheet, types, ops, bytes, ends, text, out, labels),
+        Checked::Refused(x) => {
+            clear(out);
+            clear_labels(labels);
+            AssembleAnswer::Refused(x)
+        }
+    }
 }

@@ -4,6 +4,7 @@ ghost use mathlib.Core.List.{List};
 ghost use Prim.Native.Nat.{ℕ, _^_, _≤_, _<_};
 ghost use lib.ListN.{length};
 ghost use Rattle.lists.specs.Found as search;
+ghost use Rattle.answers.specs.declared.refusal.OperandFault.the-variants as fault;
 ghost use Rattle.spec_sheet.specs.Types.{familyOf, addrFamily};
 ghost use Rattle.spec_hasm.specs.Token.{foundOr, targetIn, distanceTo, tokenValue};
 ghost use Rattle.slices.specs.Answers.{foundOf};
@@ -11,6 +12,7 @@ ghost use Rattle.strings.specs.Keys.{TextsIndexed};
 ghost use Rattle.assemble.specs.Contexts.{labelsOf, LabelsKnown};
 ghost use Rattle.spec_inputs.specs.Context.{contextFrom};
 ghost use Rattle.hasm_tokens.specs.Values.{tokenAnswer};
+use answers::refusal::OperandFault;
 use hasm_labels::label_entry::Slot;
 use hasm_labels::label_target::label_offset;
 use hasm_tokens::address_token::Target;
@@ -52,10 +54,10 @@ fn direct_value(
 // The distance to a label that was found. A distance wraps at 32 bits, so of the label's offset those count.
 fn label_distance(width: usize, offset: usize, label: Found) -> Value
     requires { ⌜ offset < 2 ^ 32 ⌝ }
-    ensures { λ r. ⌜ ((l : search.Found) → label ≡ foundOf l → r ≡ tokenAnswer (distanceTo width offset (foundOr 7 l))) ⌝ }
+    ensures { λ r. ⌜ ((l : search.Found) → label ≡ foundOf l → r ≡ tokenAnswer (distanceTo width offset (foundOr fault.Address l))) ⌝ }
 {
     let Found::At(at) = label else {
-        return Value::Refused(7);
+        return Value::Refused(OperandFault::Address);
     };
     distance_to(width, offset as u64, (at % 0x1_0000_0000) as u64)
 }
@@ -83,12 +85,12 @@ fn target_distance(
             let label = label_offset(text, sheet, types, ops, names, labels, fits, t);
             label_distance(width, offset, label)
         }
-        Target::Bad => Value::Refused(7),
+        Target::Bad => Value::Refused(OperandFault::Address),
     }
 }
 
 // The value of an operand's token in the instruction at `offset`.
-pub fn operand_value(
+pub(crate) fn operand_value(
     t: &[u8],
     code: u8,
     offset: usize,

@@ -10,7 +10,9 @@ use borrow.Author.Tests.{le-leb}
 use Rattle.spec_sheet.specs.Row.{lengthOf}
 use Rattle.spec_body.specs.Record.{recordOf, join}
 use Rattle.spec_body.specs.Decode.{Decoded, prepend, rowAt, decodeFrom, decodeBody}
-use Rattle.spec_body.specs.Decode.Decoded.{decoded, beyond, cut}
+use Rattle.spec_body.specs.Decode.Decoded.{decoded, notDecoded}
+use Rattle.answers.specs.declared.refusal.Refusal.{Refusal}
+use Rattle.answers.specs.declared.refusal.Refusal.the-variants.{Beyond, Cut}
 use Rattle.spec_body.proofs.DecodeLaws.{length-record, at-end, at-beyond, at-cut, at-more}
 use Rattle.decode.specs.Bodies.{storedAt}
 
@@ -29,15 +31,10 @@ unfolding prependAll prepend
 all-decoded [] qs = refl
 all-decoded (r ∷ rs) qs = ap (prepend r) (all-decoded rs qs)
 
-all-beyond : (rs : List (List ℕ)) (at : ℕ) → prependAll rs (beyond at) ≡ beyond at
+all-refused : (rs : List (List ℕ)) (x : Refusal) → prependAll rs (notDecoded x) ≡ notDecoded x
 unfolding prependAll prepend
-all-beyond [] at = refl
-all-beyond (r ∷ rs) at = ap (prepend r) (all-beyond rs at)
-
-all-cut : (rs : List (List ℕ)) (at : ℕ) → prependAll rs (cut at) ≡ cut at
-unfolding prependAll prepend
-all-cut [] at = refl
-all-cut (r ∷ rs) at = ap (prepend r) (all-cut rs at)
+all-refused [] x = refl
+all-refused (r ∷ rs) x = ap (prepend r) (all-refused rs x)
 
 join-more : (rs : List (List ℕ)) (r : List ℕ) → join (rs ++ (r ∷ [])) ≡ join rs ++ r
 unfolding join
@@ -89,12 +86,12 @@ module _ (types : List (List ℕ)) (last : ℕ) (s out₀ out : List ℕ) (n at 
     less : length s - n ≡ suc (length s - (n + 1))
     less = omega (arith, g .below)
 
-    pub stopped : last < getD s at 0 → decodeBody types last s ≡ beyond at
-    stopped l = g .left ∙ (rw (less, at-beyond types last s (length s - (n + 1)) at h l) (all-beyond (g .seen) at))
+    pub stopped : last < getD s at 0 → decodeBody types last s ≡ notDecoded (Beyond at)
+    stopped l = g .left ∙ (rw (less, at-beyond types last s (length s - (n + 1)) at h l) (all-refused (g .seen) (Beyond at)))
 
     module _ (l : getD s at 0 ≤ last) (size : ℕ) (e : size ≡ lengthOf (rowAt types s at)) where
-      pub broken : length s - at < size → decodeBody types last s ≡ cut at
-      broken k = g .left ∙ (rw (less, at-cut types last s (length s - (n + 1)) at (at + size) (ap (λ (x : ℕ). at + x) e) h l (omega arith)) (all-cut (g .seen) at))
+      pub broken : length s - at < size → decodeBody types last s ≡ notDecoded (Cut at)
+      broken k = g .left ∙ (rw (less, at-cut types last s (length s - (n + 1)) at (at + size) (ap (λ (x : ℕ). at + x) e) h l (omega arith)) (all-refused (g .seen) (Cut at)))
 
       pub turn : (out′ : List ℕ) → size ≤ length s - at → length out′ ≡ length out → length (rowAt types s at) ≡ 8 → out′ ≡ storedAt out n (recordOf (rowAt types s at) s at)
           → Going types last s out₀ out′ (n + 1) (at + size)
@@ -114,11 +111,8 @@ module _ (types : List (List ℕ)) (last : ℕ) (s out₀ out : List ℕ) (n at 
           }
 
 -- a refusal is no whole decoding
-pub not-beyond : {P : Type 0} (d : Decoded) (at : ℕ) (rs : List (List ℕ)) → d ≡ beyond at → d ≡ decoded rs → P
-not-beyond d at rs e f = absurd (let z : _≡_ {A = ℕ} 0 1 = cc in omega arith)
-
-pub not-cut : {P : Type 0} (d : Decoded) (at : ℕ) (rs : List (List ℕ)) → d ≡ cut at → d ≡ decoded rs → P
-not-cut d at rs e f = absurd (let z : _≡_ {A = ℕ} 0 1 = cc in omega arith)
+pub not-whole : {P : Type 0} (d : Decoded) {x : Refusal} {rs : List (List ℕ)} → d ≡ notDecoded x → d ≡ decoded rs → P
+not-whole d e f = absurd (let z : _≡_ {A = ℕ} 0 1 = cc in omega arith)
 
 -- what is written at the end
 pub all-written : (types : List (List ℕ)) (last : ℕ) (s out₀ out : List ℕ) (n at : ℕ) (g : Going types last s out₀ out n at) → length s ≤ at

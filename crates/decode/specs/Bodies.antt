@@ -5,16 +5,15 @@ use lib.Dec.{leb}
 use lib.ListN.{length, take, drop}
 use Rattle.lists.specs.Choice.{pick}
 use Rattle.spec_body.specs.Decode as spec
-use Rattle.spec_body.specs.Decode.Decoded.{decoded, beyond, cut}
+use Rattle.spec_body.specs.Decode.Decoded.{decoded, notDecoded}
 use Rattle.decode.specs.declared.body.Body.{Body}
-use Rattle.decode.specs.declared.body.Body.the-variants.{Records, Beyond, Cut}
+use Rattle.decode.specs.declared.body.Body.the-variants.{Records, Refused}
 
 -- lent words with a record as the n-th, where there is room for it
 unfoldable pub storedAt : List ℕ → ℕ → List ℕ → List ℕ
 storedAt out n r = pick (leb (n * 20 + 20) (length out)) (take (n * 20) out ++ (r ++ drop (n * 20 + 20) out)) out
 
--- a body's records, counted, or where it is refused
+-- a body's records, counted, or why it has none
 unfoldable pub bodyAnswer : spec.Decoded → Body
 bodyAnswer (decoded rs) = Records (length rs)
-bodyAnswer (beyond at) = Beyond at
-bodyAnswer (cut at) = Cut at
+bodyAnswer (notDecoded x) = Refused x

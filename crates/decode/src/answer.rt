@@ -1,19 +1,17 @@
 // What decoding answers, and its numbers.
 ghost use mathlib.Core.Path.{_≡_};
-ghost use Rattle.operation.specs.Numbers.{numbersOf};
+ghost use Rattle.answers.specs.Numbers.{numbersOf};
 ghost use Rattle.decode.specs.Answers.{decodeReport};
-use operation::ending::Numbers;
-use operation::ending::done;
-use operation::ending::refused;
+use answers::numbers::Numbers;
+use answers::numbers::done;
+use answers::numbers::refusal_numbers;
+use answers::numbers::short;
+use answers::refusal::Refusal;
 
-// What decoding answers. The definition decodeReport gives each case its number, place, operand and length.
+// The records written, why there are none, or that the lent words are too few.
 pub enum DecodeAnswer {
     Done(usize),
-    Malformed(usize),
-    TooLarge,
-    NoFunction(usize),
-    Beyond(usize),
-    Cut(usize),
+    Refused(Refusal),
     Short,
 }
 
@@ -23,11 +21,7 @@ pub fn decode_numbers(a: DecodeAnswer) -> Numbers
 {
     match a {
         DecodeAnswer::Done(n) => done(n),
-        DecodeAnswer::Malformed(line) => refused(1, line, 0),
-        DecodeAnswer::TooLarge => refused(18, 0, 0),
-        DecodeAnswer::NoFunction(id) => refused(20, id, 0),
-        DecodeAnswer::Beyond(at) => refused(13, at, 0),
-        DecodeAnswer::Cut(at) => refused(14, at, 0),
-        DecodeAnswer::Short => refused(19, 0, 0),
+        DecodeAnswer::Refused(x) => refusal_numbers(x),
+        DecodeAnswer::Short => short(),
     }
 }

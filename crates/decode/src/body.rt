@@ -9,13 +9,13 @@ ghost use Rattle.spec_body.specs.Decode.{decodeBody};
 ghost use Rattle.spec_body.specs.Decode.Decoded.{decoded};
 ghost use Rattle.decode.specs.Bodies.{storedAt, bodyAnswer};
 ghost use Rattle.decode.specs.Tables.{CodeRows, headRow};
+use answers::refusal::Refusal;
 use slices::widen::byte_index;
 
-// A body's records, counted, or the instruction where it is refused.
-pub enum Body {
+// A body's records, counted, or 13 or 14 at an instruction.
+pub(crate) enum Body {
     Records(usize),
-    Beyond(usize),
-    Cut(usize),
+    Refused(Refusal),
 }
 
 // Writes the record of an instruction as the n-th, where there is room for it.
@@ -37,7 +37,7 @@ fn store_record(
 }
 
 // One pass over a body: every record is written where it fits, and all are counted.
-pub fn decode_body(types: &[[u8; 8]; 256], last: usize, s: &[u8], out: &mut [u64]) -> Body
+pub(crate) fn decode_body(types: &[[u8; 8]; 256], last: usize, s: &[u8], out: &mut [u64]) -> Body
     ensures { λ r. ⌜ r ≡ bodyAnswer (decodeBody (now (types .entry)) last (now (s .entry))) ⌝ }
     ensures { λ _. ⌜ ((rs : List (List ℕ)) → decodeBody (now (types .entry)) last (now (s .entry)) ≡ decoded rs → (length (join rs) ≡ 20 * length rs) × (20 * length rs ≤ length (now (out .entry)) → now (out .exit) ≡ join rs ++ drop (20 * length rs) (now (out .entry)))) ⌝ }
 {
@@ -48,13 +48,13 @@ pub fn decode_body(types: &[[u8; 8]; 256], last: usize, s: &[u8], out: &mut [u64
     while at < s.len() {
         let op = s[at] as usize;
         if last < op {
-            return Body::Beyond(at);
+            return Body::Refused(Refusal::Beyond(at));
         }
         let row = types[op];
         let head = heads[op];
         let size = byte_index(head[0]);
         if s.len() - at < size {
-            return Body::Cut(at);
+            return Body::Refused(Refusal::Cut(at));
         }
         store_record(out, n, row, head, &codes, s, at);
         at += size;

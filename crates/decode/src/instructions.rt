@@ -1,22 +1,21 @@
 // Decoding a body, and a function of an area, under a sheet given as text.
-ghost use mathlib.Core.Path.{_≡_};
-ghost use lib.ListN.{length};
+ghost use mathlib.Core.List.{[]};
 ghost use Rattle.spec_body.specs.Decode.{decodeBody};
 ghost use Rattle.spec_body.specs.Operation as operation;
 ghost use Rattle.spec_body.specs.Operation.{decodeOutcome};
-ghost use Rattle.spec_answers.specs.Outcome.{report, exitOf};
+ghost use Rattle.answers.specs.Outcome.{Ended};
 ghost use Rattle.decode.specs.Answers.{decodeReport};
 use crate::answer::DecodeAnswer;
 use crate::body::Body;
 use crate::body::decode_body;
+use answers::refusal::Refusal;
 use operation::area::Located;
 use operation::area::locate;
 use sheet::opcode::Sheet;
 
 // Decodes a body under a sheet's table of type codes.
 fn decode_under(types: &[[u8; 8]; 256], last: usize, s: &[u8], out: &mut [u64]) -> DecodeAnswer
-    ensures { λ r. ⌜ decodeReport r ≡ report (decodeOutcome (decodeBody (now (types .entry)) last (now (s .entry)))) (length (now (out .entry))) ⌝ }
-    ensures { λ _. ⌜ now (out .exit) ≡ exitOf (decodeOutcome (decodeBody (now (types .entry)) last (now (s .entry)))) (now (out .entry)) ⌝ }
+    ensures { λ r. ⌜ Ended (decodeOutcome (decodeBody (now (types .entry)) last (now (s .entry)))) (now (out .entry)) [] (now (out .exit)) (decodeReport r) ⌝ }
 {
     let room = out.len() / 20;
     let b = decode_body(types, last, s, out);
@@ -28,25 +27,20 @@ fn decode_under(types: &[[u8; 8]; 256], last: usize, s: &[u8], out: &mut [u64]) 
             }
             DecodeAnswer::Done(n)
         }
-        Body::Beyond(at) => {
+        Body::Refused(x) => {
             slices::clearing::clear_words(out);
-            DecodeAnswer::Beyond(at)
-        }
-        Body::Cut(at) => {
-            slices::clearing::clear_words(out);
-            DecodeAnswer::Cut(at)
+            DecodeAnswer::Refused(x)
         }
     }
 }
 
 // Decodes a body under a sheet given as text.
 pub fn decode(sheet: &[u8], body: &[u8], out: &mut [u64]) -> DecodeAnswer
-    ensures { λ r. ⌜ decodeReport r ≡ report (operation.decode (now (sheet .entry)) (now (body .entry))) (length (now (out .entry))) ⌝ }
-    ensures { λ _. ⌜ now (out .exit) ≡ exitOf (operation.decode (now (sheet .entry)) (now (body .entry))) (now (out .entry)) ⌝ }
+    ensures { λ r. ⌜ Ended (operation.decode (now (sheet .entry)) (now (body .entry))) (now (out .entry)) [] (now (out .exit)) (decodeReport r) ⌝ }
 {
     if limits::BODY_LIMIT < body.len() {
         slices::clearing::clear_words(out);
-        return DecodeAnswer::TooLarge;
+        return DecodeAnswer::Refused(Refusal::TooLarge);
     }
     let mut types = [[0u8; 8]; 256];
     let mut ops = [[0usize; 4]; 256];
@@ -55,7 +49,7 @@ pub fn decode(sheet: &[u8], body: &[u8], out: &mut [u64]) -> DecodeAnswer
         Sheet::Read(s) => decode_under(&types, s.largest, body, out),
         Sheet::Malformed(line) => {
             slices::clearing::clear_words(out);
-            DecodeAnswer::Malformed(line)
+            DecodeAnswer::Refused(Refusal::Malformed(line))
         }
     }
 }
@@ -69,8 +63,7 @@ pub fn decode_function(
     id: usize,
     out: &mut [u64],
 ) -> DecodeAnswer
-    ensures { λ r. ⌜ decodeReport r ≡ report (operation.decodeFunction (now (sheet .entry)) (now (functions .entry)) (now (area .entry)) base id) (length (now (out .entry))) ⌝ }
-    ensures { λ _. ⌜ now (out .exit) ≡ exitOf (operation.decodeFunction (now (sheet .entry)) (now (functions .entry)) (now (area .entry)) base id) (now (out .entry)) ⌝ }
+    ensures { λ r. ⌜ Ended (operation.decodeFunction (now (sheet .entry)) (now (functions .entry)) (now (area .entry)) base id) (now (out .entry)) [] (now (out .exit)) (decodeReport r) ⌝ }
 {
     let mut types = [[0u8; 8]; 256];
     let mut ops = [[0usize; 4]; 256];
@@ -79,7 +72,7 @@ pub fn decode_function(
         Sheet::Read(s) => function_under(&types, s.largest, functions, area, base, id, out),
         Sheet::Malformed(line) => {
             slices::clearing::clear_words(out);
-            DecodeAnswer::Malformed(line)
+            DecodeAnswer::Refused(Refusal::Malformed(line))
         }
     }
 }
@@ -94,8 +87,7 @@ fn function_under(
     id: usize,
     out: &mut [u64],
 ) -> DecodeAnswer
-    ensures { λ r. ⌜ decodeReport r ≡ report (operation.functionOutcome (now (types .entry)) last (now (functions .entry)) (now (area .entry)) base id) (length (now (out .entry))) ⌝ }
-    ensures { λ _. ⌜ now (out .exit) ≡ exitOf (operation.functionOutcome (now (types .entry)) last (now (functions .entry)) (now (area .entry)) base id) (now (out .entry)) ⌝ }
+    ensures { λ r. ⌜ Ended (operation.functionOutcome (now (types .entry)) last (now (functions .entry)) (now (area .entry)) base id) (now (out .entry)) [] (now (out .exit)) (decodeReport r) ⌝ }
 {
     let place = locate(functions, area, base, id);
     match place {
@@ -103,13 +95,9 @@ fn function_under(
             let body = slices::part::part_of(area, f.start, f.size);
             decode_under(types, last, body, out)
         }
-        Located::TooLarge => {
+        Located::Refused(x) => {
             slices::clearing::clear_words(out);
-            DecodeAnswer::TooLarge
-        }
-        Located::Outside => {
-            slices::clearing::clear_words(out);
-            DecodeAnswer::NoFunction(id)
+            DecodeAnswer::Refused(x)
         }
     }
 }

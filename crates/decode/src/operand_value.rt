@@ -16,7 +16,7 @@ pub enum OperandValue {
 }
 
 // The value of a kind with these bits.
-pub fn value_of(kind: u8, bits: u64) -> OperandValue
+pub(crate) fn value_of(kind: u8, bits: u64) -> OperandValue
     ensures { λ r. ⌜ r ≡ valueOf kind bits ⌝ }
 {
     match kind {
@@ -30,7 +30,7 @@ pub fn value_of(kind: u8, bits: u64) -> OperandValue
 }
 
 // The kind of a value.
-pub fn kind_of(v: OperandValue) -> u8
+pub(crate) fn kind_of(v: OperandValue) -> u8
     ensures { λ r. ⌜ r ≡ kindOfValue v ⌝ }
 {
     match v {
@@ -50,7 +50,7 @@ pub struct Operand {
 }
 
 // The operand of a type at `at`.
-pub fn read_operand(code: u8, s: &[u8], at: usize) -> Operand
+pub(crate) fn read_operand(code: u8, s: &[u8], at: usize) -> Operand
     requires { ⌜ at + widthOf code ≤ length (now s) ⌝ }
     ensures { λ r. ⌜ r ≡ operandAt code (now (s .entry)) at ⌝ }
 {

@@ -62,7 +62,7 @@ fn put_operands(
 }
 
 // Writes the record of the instruction at `at` from word k on.
-pub fn put_record(
+pub(crate) fn put_record(
     out: &mut [u64],
     k: usize,
     row: [u8; 8],

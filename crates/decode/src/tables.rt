@@ -14,7 +14,7 @@ fn code_row(code: u8) -> [u8; 2]
 }
 
 // Those of each code; behind the twelve types both are 0.
-pub fn code_rows() -> [[u8; 2]; 256]
+pub(crate) fn code_rows() -> [[u8; 2]; 256]
     ensures { λ r. ⌜ CodeRows r ⌝ }
 {
     let mut rows = [[0u8; 2]; 256];
@@ -28,7 +28,7 @@ pub fn code_rows() -> [[u8; 2]; 256]
 }
 
 // A code's width, and its kind.
-pub fn width_at(codes: &[[u8; 2]; 256], code: u8) -> usize
+pub(crate) fn width_at(codes: &[[u8; 2]; 256], code: u8) -> usize
     requires { ⌜ CodeRows (now codes) ⌝ }
     ensures { λ r. ⌜ r ≡ widthOf code ⌝ }
 {
@@ -36,7 +36,7 @@ pub fn width_at(codes: &[[u8; 2]; 256], code: u8) -> usize
     byte_index(codes[c][0])
 }
 
-pub fn kind_at(codes: &[[u8; 2]; 256], code: u8) -> u8
+pub(crate) fn kind_at(codes: &[[u8; 2]; 256], code: u8) -> u8
     requires { ⌜ CodeRows (now codes) ⌝ }
     ensures { λ r. ⌜ r ≡ kindOf code ⌝ }
 {
@@ -54,7 +54,7 @@ fn head_row(row: [u8; 8]) -> [u8; 2]
 }
 
 // Those of each opcode up to the largest.
-pub fn head_rows(types: &[[u8; 8]; 256], last: usize) -> [[u8; 2]; 256]
+pub(crate) fn head_rows(types: &[[u8; 8]; 256], last: usize) -> [[u8; 2]; 256]
     ensures { λ r. ⌜ HeadRows (now (types .entry)) last r ⌝ }
 {
     let mut rows = [[0u8; 2]; 256];

@@ -2,25 +2,25 @@
 // four numbers.
 ghost use mathlib.Core.Path.{_≡_};
 ghost use mathlib.Core.List.{[], _∷_};
-ghost use lib.ListN.{length, replicate};
+ghost use lib.ListN.{length};
 ghost use Rattle.spec_body.specs.Operation as operation;
-ghost use Rattle.spec_answers.specs.Outcome.{report, exitOf};
-ghost use Rattle.operation.specs.Numbers.{numbersOf};
+ghost use Rattle.answers.specs.Numbers.{reportIn};
+ghost use Rattle.answers.specs.Outcome.{Ended};
+ghost use Rattle.answers.specs.Report.{cleared};
 ghost use Rattle.spec_listing.specs.Operation as listing;
 ghost use Rattle.listing.specs.Parts.{optionsFrom};
 ghost use Rattle.listing.specs.Functions.{areaOf};
 ghost use Rattle.spec_hasm.specs.Operation as hasm;
+use answers::numbers::Numbers;
 use decode::answer::decode_numbers;
 use encode::answer::encode_numbers;
 use hasm_labels::label_entry::Slot;
 use listing::options::Options;
-use operation::ending::Numbers;
 
 // Decodes a body under the sheet `text` into records of 20 words.
 #[no_mangle]
 pub extern "C" fn desk_decode(sheet: &[u8], body: &[u8], out: &mut [u64]) -> Numbers
-    ensures { λ r. ⌜ r ≡ numbersOf (report (operation.decode (now (sheet .entry)) (now (body .entry))) (length (now (out .entry)))) ⌝ }
-    ensures { λ _. ⌜ now (out .exit) ≡ exitOf (operation.decode (now (sheet .entry)) (now (body .entry))) (now (out .entry)) ⌝ }
+    ensures { λ r. ⌜ Ended (operation.decode (now (sheet .entry)) (now (body .entry))) (now (out .entry)) [] (now (out .exit)) (reportIn r) ⌝ }
 {
     decode_numbers(decode::instructions::decode(sheet, body, out))
 }
@@ -35,8 +35,7 @@ pub extern "C" fn desk_decode_function(
     id: usize,
     out: &mut [u64],
 ) -> Numbers
-    ensures { λ r. ⌜ r ≡ numbersOf (report (operation.decodeFunction (now (sheet .entry)) (now (functions .entry)) (now (area .entry)) base id) (length (now (out .entry)))) ⌝ }
-    ensures { λ _. ⌜ now (out .exit) ≡ exitOf (operation.decodeFunction (now (sheet .entry)) (now (functions .entry)) (now (area .entry)) base id) (now (out .entry)) ⌝ }
+    ensures { λ r. ⌜ Ended (operation.decodeFunction (now (sheet .entry)) (now (functions .entry)) (now (area .entry)) base id) (now (out .entry)) [] (now (out .exit)) (reportIn r) ⌝ }
 {
     decode_numbers(decode::instructions::decode_function(sheet, functions, area, base, id, out))
 }
@@ -44,8 +43,7 @@ pub extern "C" fn desk_decode_function(
 // Encodes records of 20 words under the sheet `text` into a body.
 #[no_mangle]
 pub extern "C" fn desk_encode(sheet: &[u8], words: &[u64], out: &mut [u8]) -> Numbers
-    ensures { λ r. ⌜ r ≡ numbersOf (report (operation.encode (now (sheet .entry)) (now (words .entry))) (length (now (out .entry)))) ⌝ }
-    ensures { λ _. ⌜ now (out .exit) ≡ exitOf (operation.encode (now (sheet .entry)) (now (words .entry))) (now (out .entry)) ⌝ }
+    ensures { λ r. ⌜ Ended (operation.encode (now (sheet .entry)) (now (words .entry))) (now (out .entry)) [] (now (out .exit)) (reportIn r) ⌝ }
 {
     encode_numbers(encode::encode::encode(sheet, words, out))
 }
@@ -63,9 +61,8 @@ pub extern "C" fn desk_list(
     out: &mut [u8],
     entries: &mut [u32],
 ) -> Numbers
-    ensures { λ r. ⌜ r ≡ numbersOf (report (listing.list (optionsFrom offsets labels texts) (now (sheet .entry)) (now (bytes .entry)) (now (ends .entry)) (now (body .entry)) (length (now (entries .entry)))) (length (now (out .entry)))) ⌝ }
-    ensures { λ _. ⌜ now (out .exit) ≡ exitOf (listing.list (optionsFrom offsets labels texts) (now (sheet .entry)) (now (bytes .entry)) (now (ends .entry)) (now (body .entry)) (length (now (entries .entry)))) (now (out .entry)) ⌝ }
-    ensures { λ _. ⌜ now (entries .exit) ≡ replicate (length (now (entries .entry))) 0 ⌝ }
+    ensures { λ r. ⌜ Ended (listing.list (optionsFrom offsets labels texts) (now (sheet .entry)) (now (bytes .entry)) (now (ends .entry)) (now (body .entry))) (now (out .entry)) (length (now (entries .entry)) ∷ []) (now (out .exit)) (reportIn r) ⌝ }
+    ensures { λ _. ⌜ now (entries .exit) ≡ cleared 0 (now (entries .entry)) ⌝ }
 {
     let options = Options {
         show_offsets: offsets,
@@ -99,9 +96,8 @@ pub extern "C" fn desk_list_function(
     out: &mut [u8],
     entries: &mut [u32],
 ) -> Numbers
-    ensures { λ r. ⌜ r ≡ numbersOf (report (listing.listFunction (optionsFrom offsets labels texts) (now (sheet .entry)) (now (bytes .entry)) (now (ends .entry)) (areaOf (now (functions .entry)) (now (area .entry)) base) id (length (now (entries .entry)))) (length (now (out .entry)))) ⌝ }
-    ensures { λ _. ⌜ now (out .exit) ≡ exitOf (listing.listFunction (optionsFrom offsets labels texts) (now (sheet .entry)) (now (bytes .entry)) (now (ends .entry)) (areaOf (now (functions .entry)) (now (area .entry)) base) id (length (now (entries .entry)))) (now (out .entry)) ⌝ }
-    ensures { λ _. ⌜ now (entries .exit) ≡ replicate (length (now (entries .entry))) 0 ⌝ }
+    ensures { λ r. ⌜ Ended (listing.listFunction (optionsFrom offsets labels texts) (now (sheet .entry)) (now (bytes .entry)) (now (ends .entry)) (areaOf (now (functions .entry)) (now (area .entry)) base) id) (now (out .entry)) (length (now (entries .entry)) ∷ []) (now (out .exit)) (reportIn r) ⌝ }
+    ensures { λ _. ⌜ now (entries .exit) ≡ cleared 0 (now (entries .entry)) ⌝ }
 {
     let options = Options {
         show_offsets: offsets,
@@ -137,9 +133,8 @@ pub extern "C" fn desk_list_module(
     out: &mut [u8],
     entries: &mut [u32],
 ) -> Numbers
-    ensures { λ r. ⌜ r ≡ numbersOf (report (listing.listModule (optionsFrom offsets labels texts) (now (sheet .entry)) (now (bytes .entry)) (now (ends .entry)) (areaOf (now (functions .entry)) (now (area .entry)) base) (length (now (entries .entry)))) (length (now (out .entry)))) ⌝ }
-    ensures { λ _. ⌜ now (out .exit) ≡ exitOf (listing.listModule (optionsFrom offsets labels texts) (now (sheet .entry)) (now (bytes .entry)) (now (ends .entry)) (areaOf (now (functions .entry)) (now (area .entry)) base) (length (now (entries .entry)))) (now (out .entry)) ⌝ }
-    ensures { λ _. ⌜ now (entries .exit) ≡ replicate (length (now (entries .entry))) 0 ⌝ }
+    ensures { λ r. ⌜ Ended (listing.listModule (optionsFrom offsets labels texts) (now (sheet .entry)) (now (bytes .entry)) (now (ends .entry)) (areaOf (now (functions .entry)) (now (area .entry)) base)) (now (out .entry)) (length (now (entries .entry)) ∷ []) (now (out .exit)) (reportIn r) ⌝ }
+    ensures { λ _. ⌜ now (entries .exit) ≡ cleared 0 (now (entries .entry)) ⌝ }
 {
     let options = Options {
         show_offsets: offsets,
@@ -169,9 +164,8 @@ pub extern "C" fn desk_assemble(
     out: &mut [u8],
     labels: &mut [Slot],
 ) -> Numbers
-    ensures { λ r. ⌜ r ≡ numbersOf (report (hasm.assemble (now (sheet .entry)) (now (bytes .entry)) (now (ends .entry)) (now (text .entry)) (length (now (labels .entry)))) (length (now (out .entry)))) ⌝ }
-    ensures { λ _. ⌜ now (out .exit) ≡ exitOf (hasm.assemble (now (sheet .entry)) (now (bytes .entry)) (now (ends .entry)) (now (text .entry)) (length (now (labels .entry)))) (now (out .entry)) ⌝ }
-    ensures { λ _. ⌜ now (labels .exit) ≡ replicate (length (now (labels .entry))) (0 ∷ 0 ∷ 0 ∷ []) ⌝ }
+    ensures { λ r. ⌜ Ended (hasm.assemble (now (sheet .entry)) (now (bytes .entry)) (now (ends .entry)) (now (text .entry))) (now (out .entry)) (length (now (labels .entry)) ∷ []) (now (out .exit)) (reportIn r) ⌝ }
+    ensures { λ _. ⌜ now (labels .exit) ≡ cleared (0 ∷ 0 ∷ 0 ∷ []) (now (labels .entry)) ⌝ }
 {
     assemble::answer::assemble_numbers(assemble::assemble::assemble(
         sheet,

@@ -10,6 +10,8 @@ use borrow.Author.Tests.{ne-eqb}
 use Rattle.lists.specs.Write.{Put, top}
 use Rattle.lists.proofs.Writes.{_then_, wrote-none}
 use Rattle.spec_numbers.specs.LittleEndian.{leBytes}
+use Rattle.answers.specs.declared.refusal.Refusal.the-variants.{BadOperand}
+use Rattle.answers.specs.declared.refusal.OperandFault.the-variants.{Misfit}
 use Rattle.spec_body.specs.Encode.Fitted.{fits, noFit}
 use Rattle.spec_sheet.specs.Types.{widthOf}
 use Rattle.spec_body.specs.Encode.{Operands, encodeOperand, encodeOperands, operandBytes, prependBytes}
@@ -17,7 +19,7 @@ use Rattle.spec_body.specs.Encode.Operands.{bytes, misfit}
 use Rattle.encode.specs.Ahead.{pairsAt}
 use Rattle.encode.specs.OperandsWritten.{Operanded}
 use Rattle.encode.specs.OperandsWritten.Operanded.{whole, misfits}
-use Rattle.encode.specs.declared.record_operands.Wrote.the-variants.{To, Misfit}
+use Rattle.encode.specs.declared.record_operands.Wrote.the-variants.{To, Refused}
 use Rattle.encode.proofs.ShapeLaws.{pair-word, next-pairs}
 
 prepend-none : (x : Operands) → prependBytes [] x ≡ x
@@ -54,13 +56,13 @@ pub record Going (row words : List ℕ) (at : ℕ) (out₀ : List ℕ) («from»
 pub start : (row words : List ℕ) (at : ℕ) (out : List ℕ) («from» : ℕ) → length out ≤ top → «from» ≤ top → Going row words at out «from» out «from» 0
 start row words at out «from» h l = record { seen = []; few = omega arith; wrote = wrote-none h l; left = sym (prepend-none _) }
 
-module _ (row words : List ℕ) (at : ℕ) (out₀ : List ℕ) («from» : ℕ) (out : List ℕ) (k i : ℕ) (g : Going row words at out₀ «from» out k i) where
+module _ (index : ℕ) (row words : List ℕ) (at : ℕ) (out₀ : List ℕ) («from» : ℕ) (out : List ℕ) (k i : ℕ) (g : Going row words at out₀ «from» out k i) where
   -- no operand is left
-  done : encodeOperands (drop i row) (drop (2 * i) (pairsAt words at)) (i + 1) ≡ bytes [] → Operanded (encodeOperands row (pairsAt words at) 1) out₀ «from» out (To k)
+  done : encodeOperands (drop i row) (drop (2 * i) (pairsAt words at)) (i + 1) ≡ bytes [] → Operanded (encodeOperands row (pairsAt words at) 1) index out₀ «from» out (To k)
   unfolding prependBytes
   done e = whole (g .seen) k (g .left ∙ (rw e (ap bytes (append-nil (g .seen))))) refl (g .wrote)
 
-  pub ended : length row ≤ i → Operanded (encodeOperands row (pairsAt words at) 1) out₀ «from» out (To k)
+  pub ended : length row ≤ i → Operanded (encodeOperands row (pairsAt words at) 1) index out₀ «from» out (To k)
   unfolding encodeOperands
   ended h = done (rw (drop-of-length-le row h))
 
@@ -68,7 +70,7 @@ module _ (row words : List ℕ) (at : ℕ) (out₀ : List ℕ) («from» : ℕ) 
     here : drop i row ≡ getD row i 0 ∷ drop (i + 1) row
     here = rw (add-one i) (drop-cons row i 0 h)
 
-    pub stops : getD row i 0 ≡ 0 → Operanded (encodeOperands row (pairsAt words at) 1) out₀ «from» out (To k)
+    pub stops : getD row i 0 ≡ 0 → Operanded (encodeOperands row (pairsAt words at) 1) index out₀ «from» out (To k)
     stops e = done (rw here (no-code (getD row i 0) (drop (i + 1) row) _ _ e))
 
     module _ (e : getD row i 0 ≡ 0 → ⊥) (p : ℕ) (q : p ≡ at + 4 + 2 * i) where
@@ -78,7 +80,7 @@ module _ (row words : List ℕ) (at : ℕ) (out₀ : List ℕ) («from» : ℕ) 
           let w : getD (drop (2 * i) (pairsAt words at)) 0 0 ≡ getD words p 0 = pair-word words at i p q l 0 (omega arith) ∙ ap (λ (n : ℕ). getD words n 0) z in
           rw (w, pair-word words at i p q l 1 (omega arith))
 
-      pub refuses : (out′ : List ℕ) → encodeOperand (getD row i 0) (getD words p 0) (getD words (p + 1) 0) ≡ noFit → Operanded (encodeOperands row (pairsAt words at) 1) out₀ «from» out′ (Misfit (i + 1))
+      pub refuses : (out′ : List ℕ) → encodeOperand (getD row i 0) (getD words p 0) (getD words (p + 1) 0) ≡ noFit → Operanded (encodeOperands row (pairsAt words at) 1) index out₀ «from» out′ (Refused (BadOperand Misfit index (i + 1)))
       unfolding prependBytes
       refuses out′ f = misfits (i + 1) (g .left ∙ (rw (here, unfit (getD row i 0) (drop (i + 1) row) (drop (2 * i) (pairsAt words at)) (i + 1) e (operand ∙ f)))) refl
 

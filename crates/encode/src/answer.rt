@@ -1,22 +1,17 @@
 // What encoding answers, and its numbers.
 ghost use mathlib.Core.Path.{_≡_};
-ghost use Rattle.operation.specs.Numbers.{numbersOf};
+ghost use Rattle.answers.specs.Numbers.{numbersOf};
 ghost use Rattle.encode.specs.Answers.{encodeReport};
-use operation::ending::Numbers;
-use operation::ending::done;
-use operation::ending::refused;
+use answers::numbers::Numbers;
+use answers::numbers::done;
+use answers::numbers::refusal_numbers;
+use answers::numbers::short;
+use answers::refusal::Refusal;
 
-// The bytes written; or why a text or its records are refused: the sheet's malformed line, the record whose shape is bad,
-// whose opcode is beyond the sheet's or whose operand count is another, the record and its operand that doesn't fit; or
-// that the body is too large, or the lent space too short.
+// The bytes written, why there are none, or that the lent space is too short.
 pub enum EncodeAnswer {
     Done(usize),
-    Malformed(usize),
-    Shape(usize),
-    Beyond(usize),
-    Count(usize),
-    Misfit(usize, usize),
-    TooLarge,
+    Refused(Refusal),
     Short,
 }
 
@@ -26,12 +21,7 @@ pub fn encode_numbers(a: EncodeAnswer) -> Numbers
 {
     match a {
         EncodeAnswer::Done(n) => done(n),
-        EncodeAnswer::Malformed(line) => refused(1, line, 0),
-        EncodeAnswer::Shape(i) => refused(15, i, 0),
-        EncodeAnswer::Beyond(i) => refused(13, i, 0),
-        EncodeAnswer::Count(i) => refused(5, i, 0),
-        EncodeAnswer::Misfit(i, q) => refused(15, i, q),
-        EncodeAnswer::TooLarge => refused(18, 0, 0),
-        EncodeAnswer::Short => refused(19, 0, 0),
+        EncodeAnswer::Refused(x) => refusal_numbers(x),
+        EncodeAnswer::Short => short(),
     }
 }

@@ -15,7 +15,7 @@ use slices::widen::wide_byte;
 
 // By type code: the kind that it is decoded to, its largest bits, and its bytes. It is made once for all records and lent,
 // since a constant would be made anew at each use.
-pub fn code_table() -> [[u64; 13]; 3]
+pub(crate) fn code_table() -> [[u64; 13]; 3]
     ensures { λ r. ⌜ r ≡ codeTable ⌝ }
 {
     [
@@ -71,7 +71,7 @@ fn canonical_count(row: [u8; 8]) -> u8
 }
 
 // The same of each row up to the largest opcode, made once for all records.
-pub fn canonical_counts(types: &[[u8; 8]; 256], last: usize) -> [u8; 256]
+pub(crate) fn canonical_counts(types: &[[u8; 8]; 256], last: usize) -> [u8; 256]
     requires { ⌜ last ≤ 255 ⌝ }
     ensures { λ r. ⌜ Counted (now (types .entry)) last r ⌝ }
 {
@@ -131,7 +131,7 @@ fn bare_words(words: &[u64], at: usize) -> bool
 }
 
 // Whether the record at `at` is one.
-pub fn is_canonical(
+pub(crate) fn is_canonical(
     codes: &[[u64; 13]; 3],
     counts: &[u8; 256],
     types: &[[u8; 8]; 256],
@@ -208,7 +208,7 @@ fn put_operands(
 }
 
 // Whether a record may be written so: its 41 bytes fit, and eight bytes behind it are written over.
-pub fn has_room(len: usize, from: usize, spare: usize) -> bool
+pub(crate) fn has_room(len: usize, from: usize, spare: usize) -> bool
     ensures { λ r. ⌜ r ≡ both (leb 8 spare) (leb («from» + 41) len) ⌝ }
 {
     if spare < 8 {
@@ -221,7 +221,7 @@ pub fn has_room(len: usize, from: usize, spare: usize) -> bool
 }
 
 // Writes the record at `at`.
-pub fn put_record(
+pub(crate) fn put_record(
     codes: &[[u64; 13]; 3],
     types: &[[u8; 8]; 256],
     words: &[u64],

@@ -1,24 +1,20 @@
 // Records of 20 words encoded under a sheet, `encode_function_body` of encode.rs. One pass writes what fits and counts all of
 // it, so that the lent space is compared with the length needed only after nothing else has refused.
-ghost use mathlib.Core.Path.{_≡_};
+ghost use mathlib.Core.List.{[]};
 ghost use Prim.Native.Nat.{_≤_};
-ghost use lib.ListN.{length};
 ghost use Rattle.spec_body.specs.Encode.{encodeRecords};
 ghost use Rattle.spec_body.specs.Operation as operation;
 ghost use Rattle.spec_body.specs.Operation.{encodeOutcome};
-ghost use Rattle.spec_answers.specs.Outcome.{report, exitOf};
+ghost use Rattle.answers.specs.Outcome.{Ended};
 ghost use Rattle.encode.specs.Answers.{encodeReport};
 ghost use Rattle.encode.specs.Encoding.{Encoding};
 use crate::answer::EncodeAnswer;
+use crate::record_operands::Wrote;
+use answers::refusal::Refusal;
 use sheet::opcode::Sheet;
 
 // Writes all records: how many bytes they have, or the first refusal.
-fn encode_records(
-    types: &[[u8; 8]; 256],
-    last: usize,
-    words: &[u64],
-    out: &mut [u8],
-) -> EncodeAnswer
+fn encode_records(types: &[[u8; 8]; 256], last: usize, words: &[u64], out: &mut [u8]) -> Wrote
     requires { ⌜ last ≤ 255 ⌝ }
     ensures { λ r. ⌜ Encoding (encodeRecords (now (types .entry)) last (now (words .entry))) (now (out .entry)) (now (out .exit)) r ⌝ }
 {
@@ -39,49 +35,46 @@ fn encode_records(
             out,
             k,
         );
-        let EncodeAnswer::Done(next) = r else {
+        let Wrote::To(next) = r else {
             return r;
         };
         k = next;
         i += 1;
     }
     if words.len() % 20 != 0 {
-        return EncodeAnswer::Shape(n);
+        return Wrote::Refused(Refusal::BadRecord(n));
     }
-    EncodeAnswer::Done(k)
+    Wrote::To(k)
 }
 
 // The records under the tables of a sheet, with their length and the lent space looked at last.
-pub fn encode_under(
-    types: &[[u8; 8]; 256],
-    last: usize,
-    words: &[u64],
-    out: &mut [u8],
-) -> EncodeAnswer
+fn encode_under(types: &[[u8; 8]; 256], last: usize, words: &[u64], out: &mut [u8]) -> EncodeAnswer
     requires { ⌜ last ≤ 255 ⌝ }
-    ensures { λ r. ⌜ encodeReport r ≡ report (encodeOutcome (encodeRecords (now (types .entry)) last (now (words .entry)))) (length (now (out .entry))) ⌝ }
-    ensures { λ _. ⌜ now (out .exit) ≡ exitOf (encodeOutcome (encodeRecords (now (types .entry)) last (now (words .entry)))) (now (out .entry)) ⌝ }
+    ensures { λ r. ⌜ Ended (encodeOutcome (encodeRecords (now (types .entry)) last (now (words .entry)))) (now (out .entry)) [] (now (out .exit)) (encodeReport r) ⌝ }
 {
-    let r = encode_records(types, last, words, out);
-    let EncodeAnswer::Done(n) = r else {
-        slices::write::clear(out);
-        return r;
-    };
-    if limits::BODY_LIMIT < n {
-        slices::write::clear(out);
-        return EncodeAnswer::TooLarge;
+    let w = encode_records(types, last, words, out);
+    match w {
+        Wrote::To(n) => {
+            if limits::BODY_LIMIT < n {
+                slices::write::clear(out);
+                return EncodeAnswer::Refused(Refusal::TooLarge);
+            }
+            if out.len() < n {
+                slices::write::clear(out);
+                return EncodeAnswer::Short;
+            }
+            EncodeAnswer::Done(n)
+        }
+        Wrote::Refused(x) => {
+            slices::write::clear(out);
+            EncodeAnswer::Refused(x)
+        }
     }
-    if out.len() < n {
-        slices::write::clear(out);
-        return EncodeAnswer::Short;
-    }
-    EncodeAnswer::Done(n)
 }
 
 // Encodes records of 20 words under the sheet that a text holds.
 pub fn encode(sheet: &[u8], words: &[u64], out: &mut [u8]) -> EncodeAnswer
-    ensures { λ r. ⌜ encodeReport r ≡ report (operation.encode (now (sheet .entry)) (now (words .entry))) (length (now (out .entry))) ⌝ }
-    ensures { λ _. ⌜ now (out .exit) ≡ exitOf (operation.encode (now (sheet .entry)) (now (words .entry))) (now (out .entry)) ⌝ }
+    ensures { λ r. ⌜ Ended (operation.encode (now (sheet .entry)) (now (words .entry))) (now (out .entry)) [] (now (out .exit)) (encodeReport r) ⌝ }
 {
     let mut types = [[0u8; 8]; 256];
     let mut ops = [[0usize; 4]; 256];
@@ -90,7 +83,7 @@ pub fn encode(sheet: &[u8], words: &[u64], out: &mut [u8]) -> EncodeAnswer
         Sheet::Read(read) => encode_under(&types, read.largest, words, out),
         Sheet::Malformed(line) => {
             slices::write::clear(out);
-            EncodeAnswer::Malformed(line)
+            EncodeAnswer::Refused(Refusal::Malformed(line))
         }
     }
 }

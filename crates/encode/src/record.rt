@@ -6,10 +6,10 @@ ghost use Rattle.spec_body.specs.Encode.{encodeRecord};
 ghost use Rattle.encode.specs.Canonical.{codeTable, Counted};
 ghost use Rattle.encode.specs.Ahead.{recordAt};
 ghost use Rattle.encode.specs.Written.{Turn};
-use crate::answer::EncodeAnswer;
 use crate::record_operands::Wrote;
 use crate::record_operands::encode_operands;
 use crate::record_shape::good_shape;
+use answers::refusal::Refusal;
 
 // Writes record i from position `from` on, whatever its operands' kinds are.
 fn encode_any(
@@ -19,33 +19,29 @@ fn encode_any(
     i: usize,
     out: &mut [u8],
     from: usize,
-) -> EncodeAnswer
+) -> Wrote
     requires { ⌜ (20 * i + 20 ≤ length (now words)) × (last ≤ 255) ⌝ }
     ensures { λ r. ⌜ Turn (encodeRecord (now (types .entry)) last i (recordAt (now (words .entry)) (20 * i))) (now (out .entry)) «from» 0 (now (out .exit)) r ⌝ }
 {
     let at = 20 * i;
     if !good_shape(words, at) {
-        return EncodeAnswer::Shape(i);
+        return Wrote::Refused(Refusal::BadRecord(i));
     }
     let opcode = words[at + 1];
     if (last as u64) < opcode {
-        return EncodeAnswer::Beyond(i);
+        return Wrote::Refused(Refusal::Beyond(i));
     }
     let row = types[opcode as usize];
     if words[at + 3] != sheet::row::operand_count(row) {
-        return EncodeAnswer::Count(i);
+        return Wrote::Refused(Refusal::OperandCount(i));
     }
     let k = slices::write::put_byte(out, from, opcode as u8);
-    let w = encode_operands(row, words, at, out, k);
-    match w {
-        Wrote::To(n) => EncodeAnswer::Done(n),
-        Wrote::Misfit(q) => EncodeAnswer::Misfit(i, q),
-    }
+    encode_operands(row, words, i, out, k)
 }
 
 // Writes record i from position `from` on. Where it is a canonical one, up to `spare` bytes behind it may be written as well,
 // since so many are written over by the records behind it.
-pub fn encode_record(
+pub(crate) fn encode_record(
     codes: &[[u64; 13]; 3],
     counts: &[u8; 256],
     types: &[[u8; 8]; 256],
@@ -55,7 +51,7 @@ pub fn encode_record(
     spare: usize,
     out: &mut [u8],
     from: usize,
-) -> EncodeAnswer
+) -> Wrote
     requires { ⌜ (now codes ≡ codeTable) × (Counted (now types) last (now counts)) × (20 * i + 20 ≤ length (now words)) × (last ≤ 255) ⌝ }
     ensures { λ r. ⌜ Turn (encodeRecord (now (types .entry)) last i (recordAt (now (words .entry)) (20 * i))) (now (out .entry)) «from» spare (now (out .exit)) r ⌝ }
 {
@@ -63,7 +59,7 @@ pub fn encode_record(
     if crate::canonical::has_room(out.len(), from, spare) {
         if crate::canonical::is_canonical(codes, counts, types, last, words, at) {
             let k = crate::canonical::put_record(codes, types, words, at, out, from);
-            return EncodeAnswer::Done(k);
+            return Wrote::To(k);
         }
     }
     encode_any(types, last, words, i, out, from)

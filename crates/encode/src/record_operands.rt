@@ -1,36 +1,44 @@
 // A record's operands as bytes.
-ghost use Prim.Native.Nat.{_+_, _≤_};
+ghost use Prim.Native.Nat.{_+_, _*_, _≤_};
 ghost use lib.ListN.{length};
 ghost use Rattle.spec_body.specs.Encode.{encodeOperands};
 ghost use Rattle.encode.specs.Ahead.{pairsAt};
 ghost use Rattle.encode.specs.OperandsWritten.{Operanded};
 use crate::write_operand::Fitted;
+use answers::refusal::OperandFault;
+use answers::refusal::Refusal;
 
-// Operands that were written: the next position; or the one that doesn't fit, from 1.
-pub enum Wrote {
+// Operands or records that were written: the next position; or the first refusal.
+pub(crate) enum Wrote {
     To(usize),
-    Misfit(usize),
+    Refused(Refusal),
 }
 
-// Writes the operands of the record at `at` from position `from` on.
-pub fn encode_operands(row: [u8; 8], words: &[u64], at: usize, out: &mut [u8], from: usize) -> Wrote
-    requires { ⌜ at + 20 ≤ length (now words) ⌝ }
-    ensures { λ r. ⌜ Operanded (encodeOperands row (pairsAt (now (words .entry)) at) 1) (now (out .entry)) «from» (now (out .exit)) r ⌝ }
+// Writes the operands of record i from position `from` on.
+pub(crate) fn encode_operands(
+    row: [u8; 8],
+    words: &[u64],
+    i: usize,
+    out: &mut [u8],
+    from: usize,
+) -> Wrote
+    requires { ⌜ 20 * i + 20 ≤ length (now words) ⌝ }
+    ensures { λ r. ⌜ Operanded (encodeOperands row (pairsAt (now (words .entry)) (20 * i)) 1) i (now (out .entry)) «from» (now (out .exit)) r ⌝ }
 {
     let mut k = from;
-    let mut i: usize = 0;
-    while i < 8 {
-        let c = row[i];
+    let mut j: usize = 0;
+    while j < 8 {
+        let c = row[j];
         if c == 0 {
             return Wrote::To(k);
         }
-        let p = at + 4 + 2 * i;
+        let p = 20 * i + 4 + 2 * j;
         let v = crate::write_operand::encode_number(c, words[p], words[p + 1]);
         let Fitted::Bits(n) = v else {
-            return Wrote::Misfit(i + 1);
+            return Wrote::Refused(Refusal::BadOperand(OperandFault::Misfit, i, j + 1));
         };
         k = numbers::io::put_le(out, k, sheet::operand_types::width(c), n);
-        i += 1;
+        j += 1;
     }
     Wrote::To(k)
 }

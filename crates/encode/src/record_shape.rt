@@ -62,7 +62,7 @@ fn good_pairs(words: &[u64], at: usize, count: u64) -> bool
 }
 
 // Whether the record at `at` is well-formed.
-pub fn good_shape(words: &[u64], at: usize) -> bool
+pub(crate) fn good_shape(words: &[u64], at: usize) -> bool
     requires { ⌜ at + 20 ≤ length (now words) ⌝ }
     ensures { λ r. ⌜ r ≡ goodShape (recordAt (now (words .entry)) at) ⌝ }
 {

@@ -1,29 +1,32 @@
 -- Laws of the labels that instructions take. Assumes nothing.
-use mathlib.Core.Path.{_≡_, refl, ap, _∙_}
+use mathlib.Core.Path.{_≡_, refl, ap, sym, _∙_}
 use mathlib.Core.Bool.{true, false}
-use Prim.Native.Nat.{ℕ, _+_, _≤_}
+use Prim.Native.Nat.{ℕ, suc, _+_, _≤_, _<_}
 use native.Mathlib.Numerals.{add-one}
 use native.Mathlib.Omega.{arith}
 use mathlib.Core.List.{List, [], _∷_, _++_, append-nil}
-use lib.ListN.{length, take, set, length-set, length-append}
-use lib.Seq.{take-suc-set}
+use lib.ListN.{length, take, drop, set, length-set, length-append}
+use lib.Seq.{take-all, take-suc-set, take-append-le, set-out, drop-set-lt, drop-drop}
 use Rattle.lists.specs.Choice.{pick}
 use Rattle.lists.specs.Scan.{same, part}
 use Rattle.lists.specs.Found.Found.{found, missing}
-use Rattle.spec_hasm.specs.Assemble.{LabelAt, holding, labelOffset}
-use Rattle.hasm_labels.specs.Holding.{waiting, Noted, Held}
+use Rattle.lists.proofs.Tests.{by-leb, true-not-false}
+use Rattle.spec_hasm.specs.Assemble.{LabelLine, LabelAt, holding, labelOffset}
+use Rattle.hasm_labels.specs.Slots.{labelIn, labelsIn}
+use Rattle.hasm_labels.specs.Holding.{Waits, Noted, Held}
 use Rattle.hasm_labels.specs.declared.hold_label.Progress.{Progress}
 use Rattle.hasm_labels.proofs.LabelLaws.{offset-more, labels-more}
 
-holding-none : (text : List ℕ) (p : Progress) → p .waits ≡ false → holding (waiting text p) (p .offset) [] ≡ []
-unfolding holding
-holding-none text p w = rw w
-
 -- no label waits
+holding-none : (text : List ℕ) (p : Progress) (w : List LabelLine) → Waits text p w → p .waits ≡ false → holding w (p .offset) [] ≡ []
+unfolding holding
+holding-none text p [] h e = refl
+holding-none text p (l ∷ ls) h e = true-not-false (p .waits) (h .0) e
+
 pub held-none : (text t : List ℕ) (slots : List (List ℕ)) (p : Progress) → p .waits ≡ false → Held text t slots p slots p
-held-none text t slots p w =
+held-none text t slots p e =
     record {
-      noted = λ labels h. rw (holding-none text p w, append-nil labels) h;
+      noted = λ slots₀ w u labels h. rw (holding-none text p w u e, append-nil labels) h;
       offset = refl;
       count = omega arith;
       place = λ n a b. b;
@@ -33,29 +36,53 @@ held-none text t slots p w =
 abbrev taken : List ℕ → Progress → LabelAt
 taken text p = record { text = part text (p .start) (p .size); offset = p .offset }
 
-holding-one : (text : List ℕ) (p : Progress) → p .waits ≡ true → holding (waiting text p) (p .offset) [] ≡ taken text p ∷ []
+holding-one : (text : List ℕ) (p : Progress) (w : List LabelLine) → Waits text p w → p .waits ≡ true → holding w (p .offset) [] ≡ taken text p ∷ []
 unfolding holding
-holding-one text p w = rw w
+holding-one text p [] h e = true-not-false (p .waits) e h
+holding-one text p (l ∷ ls) h e = rw (h .1) refl
+
+-- the k + 1st of labels goes to the slot behind the first k, where there is one
+module _ (text : List ℕ) (slots : List (List ℕ)) (labels : List LabelAt) (slot : List ℕ) (k : ℕ) (h : k ≡ length labels) (s : labelsIn text (take k slots) ≡ take (length slots) labels) where
+  stored-room : k < length slots → labelsIn text (take (suc k) (set slots k slot)) ≡ take (length (set slots k slot)) (labels ++ (labelIn text slot ∷ []))
+  stored-room l =
+      let all : labelsIn text (take k slots) ≡ labels = s ∙ take-all (length slots) labels (omega arith) in
+      let fits : length (labels ++ (labelIn text slot ∷ [])) ≤ length slots = omega (arith, length-append labels (labelIn text slot ∷ [])) in
+      rw (length-set slots k slot, take-suc-set slots k slot l, labels-more text (take k slots) slot, all, take-all (length slots) (labels ++ (labelIn text slot ∷ [])) fits)
+
+  stored-full : length slots ≤ k → labelsIn text (take (suc k) (set slots k slot)) ≡ take (length (set slots k slot)) (labels ++ (labelIn text slot ∷ []))
+  stored-full l =
+      rw (set-out slots k slot l, take-append-le (length slots) labels (labelIn text slot ∷ []) (omega arith), take-all (suc k) slots (omega arith))
+      (rw (take-all k slots l) at s)
+
+  stored-more : labelsIn text (take (suc k) (set slots k slot)) ≡ take (length (set slots k slot)) (labels ++ (labelIn text slot ∷ []))
+  stored-more = by-leb (length slots) k stored-full stored-room
+
+-- and the slots behind it are as they were
+kept-more : (slots slots₀ : List (List ℕ)) (slot : List ℕ) (k : ℕ) → drop k slots ≡ drop k slots₀ → drop (k + 1) (set slots k slot) ≡ drop (k + 1) slots₀
+kept-more slots slots₀ slot k h =
+    drop-set-lt (k + 1) slots k slot (omega arith) ∙ sym (drop-drop 1 k slots) ∙ ap (drop 1) h ∙ drop-drop 1 k slots₀
 
 -- a label waits: it is stored behind the others, and p′ counts it
 module _ (text t : List ℕ) (slots slots′ : List (List ℕ)) (p p′ : Progress) (w : p .waits ≡ true)
     (s : slots′ ≡ set slots (p .count) (p .start ∷ p .size ∷ p .offset ∷ [])) (c : p′ .count ≡ p .count + 1) where
-  one-more : (labels : List LabelAt) → Noted text t labels p slots → labelOffset (labels ++ (taken text p ∷ [])) t ≡ pick (p′ .has) (found (p′ .place)) missing
-      → Noted text t (labels ++ holding (waiting text p) (p .offset) []) p′ slots′
-  one-more labels h l =
-      rw (holding-one text p w)
+  abbrev own : List ℕ
+  own = p .start ∷ p .size ∷ p .offset ∷ []
+
+  one-more : (slots₀ : List (List ℕ)) (waiting : List LabelLine) → Waits text p waiting → (labels : List LabelAt) → Noted text t slots₀ labels p slots
+      → labelOffset (labels ++ (taken text p ∷ [])) t ≡ pick (p′ .has) (found (p′ .place)) missing → Noted text t slots₀ (labels ++ holding waiting (p .offset) []) p′ slots′
+  one-more slots₀ waiting u labels h l =
+      rw (holding-one text p waiting u w)
       (record {
         counted = rw (c, length-append labels (taken text p ∷ []), h .counted);
         last = l;
-        stored = λ k.
-            let k′ : p .count + 1 ≤ length slots = omega (arith, c, k, ap length s, length-set slots (p .count) (p .start ∷ p .size ∷ p .offset ∷ [])) in
-            rw (c, s, add-one (p .count), take-suc-set slots (p .count) (p .start ∷ p .size ∷ p .offset ∷ []) (omega arith), labels-more text (take (p .count) slots) (p .start ∷ p .size ∷ p .offset ∷ []), h .stored (omega arith));
+        stored = rw (c, s, add-one (p .count)) (stored-more text slots labels own (p .count) (h .counted) (h .stored));
+        kept = rw (c, s) (kept-more slots slots₀ own (p .count) (h .kept));
       })
 
   pub held-same : same (part text (p .start) (p .size)) t ≡ true → p′ .has ≡ true → p′ .place ≡ p .offset → p′ .offset ≡ p .offset → Held text t slots p slots′ p′
   held-same e f g o =
       record {
-        noted = λ labels h. one-more labels h (offset-more labels (taken text p) t ∙ rw (e, f, g));
+        noted = λ slots₀ waiting u labels h. one-more slots₀ waiting u labels h (offset-more labels (taken text p) t ∙ rw (e, f, g));
         offset = o;
         count = omega (arith, c);
         place = λ n a b. rw g a;
@@ -64,7 +91,7 @@ module _ (text t : List ℕ) (slots slots′ : List (List ℕ)) (p p′ : Progre
   pub held-other : same (part text (p .start) (p .size)) t ≡ false → p′ .has ≡ p .has → p′ .place ≡ p .place → p′ .offset ≡ p .offset → Held text t slots p slots′ p′
   held-other e f g o =
       record {
-        noted = λ labels h. one-more labels h (offset-more labels (taken text p) t ∙ rw (e, f, g) (h .last));
+        noted = λ slots₀ waiting u labels h. one-more slots₀ waiting u labels h (offset-more labels (taken text p) t ∙ rw (e, f, g) (h .last));
         offset = o;
         count = omega (arith, c);
         place = λ n a b. rw g b;

@@ -12,54 +12,45 @@ use Rattle.spec_hasm.specs.Text.{linesOf}
 use Rattle.spec_hasm.specs.Line as definition
 use Rattle.spec_hasm.specs.Line.{statementOf}
 use Rattle.spec_hasm.specs.Line.Statement.{nothing, labelled, instruction}
-use Rattle.spec_hasm.specs.Assemble.{Assembled, Code, Label, LabelAt, codesFrom, codesOf, unlessBadName, sizeIn, holding, labelsFrom}
-use Rattle.spec_hasm.specs.Assemble.Label.{none, called}
+use Rattle.spec_hasm.specs.Assemble.{Assembled, Code, LabelLine, LabelAt, codesFrom, codesOf, unlessBadName, sizeIn, holding, labelsFrom}
 use Rattle.hasm_read.specs.Lines.{notFeed, lineLength, lineIn}
 use Rattle.hasm_read.proofs.LineLaws.{line-short}
 use Rattle.hasm_read.specs.Statements.{StatementIn}
 use Rattle.hasm_read.proofs.PartLaws.{drop-take}
-use Rattle.hasm_labels.specs.Holding.{waiting, Held}
-use Rattle.hasm_labels.specs.NameReads.{RefusedBy, Sized}
+use Rattle.hasm_labels.specs.Holding.{Held}
+use Rattle.hasm_labels.specs.NameReads.{codeOf, Sized}
 use Rattle.hasm_labels.specs.Going.{Passed, CodeTaken, Going, Turned}
+use Rattle.hasm_labels.specs.declared.take_line.Step.{Step}
+use Rattle.hasm_labels.specs.declared.take_line.Step.the-variants.{On, Refused}
 use Rattle.hasm_labels.specs.declared.hold_label.Progress.{Progress}
-use Rattle.hasm_labels.proofs.CodeSteps.{codeOf, codes-nothing, codes-label, codes-code}
+use Rattle.hasm_labels.proofs.CodeSteps.{codes-nothing, codes-label, codes-code}
 use Rattle.hasm_read.specs.Statements.StatementIn.{none as read-none, label as read-label, code as read-code}
 use Rattle.hasm_read.specs.declared.statement.Statement.the-variants.{Nothing, Label as LabelRead, Instruction}
 
 -- the progress behind an instruction of k bytes, and behind a label
 abbrev passed : Progress → ℕ → Progress
-passed q k = record { waits = false; start = 0; size = 0; count = q .count; offset = q .offset + k; has = q .has; place = q .place; refusal = 0 }
+passed q k = record { waits = false; start = 0; size = 0; count = q .count; offset = q .offset + k; has = q .has; place = q .place }
 
 abbrev labelRead : Progress → ℕ → ℕ → Progress
-labelRead p s m = record { waits = true; start = s; size = m; count = p .count; offset = p .offset; has = p .has; place = p .place; refusal = 0 }
+labelRead p s m = record { waits = true; start = s; size = m; count = p .count; offset = p .offset; has = p .has; place = p .place }
 
--- an instruction takes the label that waits, or is refused
-module _ (e : Context) (s text t : List ℕ) (slots : List (List ℕ)) (p : Progress) (slots′ : List (List ℕ)) where
-  pub code-passed : (q : Progress) (k : ℕ) → Sized e s k → Held text t slots p slots′ q → CodeTaken e s text t slots p slots′ (passed q k)
-  code-passed q k z h =
-      record {
-        good = λ x y.
-            record {
-              bytes = k;
-              sized = z;
-              waits = refl;
-              start = refl;
-              size = refl;
-              count = h .count;
-              offset = ap (λ (i : ℕ). i + k) (h .offset);
-              place = h .place;
-              noted = λ labels w. let u = h .noted labels w in record { counted = u .counted; last = u .last; stored = u .stored };
-              refusal = refl;
-            };
-        unknown = λ w. absurd (let v : _≡_ {A = ℕ} 0 4 = w in omega (arith, v));
-        miscounted = λ w. absurd (let v : _≡_ {A = ℕ} 0 5 = w in omega (arith, v));
-      }
-
-  pub code-unknown : (q : Progress) → q .refusal ≡ 4 → RefusedBy e 4 s → CodeTaken e s text t slots p slots′ q
-  code-unknown q r f = record { good = λ x y. absurd (x r); unknown = λ w. f; miscounted = λ w. absurd (omega (arith, w, r)) }
-
-  pub code-miscounted : (q : Progress) → q .refusal ≡ 5 → RefusedBy e 5 s → CodeTaken e s text t slots p slots′ q
-  code-miscounted q r f = record { good = λ x y. absurd (y r); unknown = λ w. absurd (omega (arith, w, r)); miscounted = λ w. f }
+-- an instruction takes the label that waits
+pub code-passed : (e : Context) (n : ℕ) (s text t : List ℕ) (slots : List (List ℕ)) (p : Progress) (slots′ : List (List ℕ)) (q : Progress) (k : ℕ) → Sized e n s k → Held text t slots p slots′ q
+    → Passed e n s text t slots p slots′ (passed q k)
+code-passed e n s text t slots p slots′ q k z h =
+    record {
+      bytes = k;
+      sized = z;
+      waits = refl;
+      start = refl;
+      size = refl;
+      count = h .count;
+      offset = ap (λ (i : ℕ). i + k) (h .offset);
+      place = h .place;
+      noted = λ slots₀ waiting w labels v.
+          let u = h .noted slots₀ waiting w labels v in
+          record { counted = u .counted; last = u .last; stored = u .stored; kept = u .kept };
+    }
 
 -- what a line was read as
 module _ (x : definition.Statement) (l : List ℕ) where
@@ -90,88 +81,79 @@ part-part s at n a m h =
     let k : m ≤ n - a = omega (arith, h, length-take n (drop at s)) in
     rw (drop-take a n (drop at s), drop-drop a at s) (take-take m (n - a) (drop (at + a) s) k)
 
-holding-split : (w : Label) (at : ℕ) (rest : List LabelAt) → holding w at rest ≡ holding w at [] ++ rest
+holding-split : (w : List LabelLine) (at : ℕ) (rest : List LabelAt) → holding w at rest ≡ holding w at [] ++ rest
 unfolding holding
-holding-split none at rest = refl
-holding-split (called t) at rest = refl
+holding-split [] at rest = refl
+holding-split (l ∷ ls) at rest = refl
 
-labels-cons : (e : Context) (at : ℕ) (c : Code) (cs : List Code) → labelsFrom e at (c ∷ cs) ≡ holding (c .label) at [] ++ labelsFrom e (at + sizeIn e c) cs
+labels-cons : (e : Context) (at : ℕ) (c : Code) (cs : List Code) → labelsFrom e at (c ∷ cs) ≡ holding (c .labels) at [] ++ labelsFrom e (at + sizeIn e c) cs
 unfolding labelsFrom
-labels-cons e at c cs = holding-split (c .label) at (labelsFrom e (at + sizeIn e c) cs)
+labels-cons e at c cs = holding-split (c .labels) at (labelsFrom e (at + sizeIn e c) cs)
 
 -- the pass in front of a line whose end was found
-module _ (e : Context) (text t : List ℕ) (at n end : ℕ) (p : Progress) (slots : List (List ℕ)) (g : Going e text t at n p slots)
+module _ (e : Context) (text t : List ℕ) (slots₀ : List (List ℕ)) (at n end : ℕ) (p : Progress) (slots : List (List ℕ)) (g : Going e text t slots₀ at n p slots)
     (h : at < length text) (k : end ≡ at + run notFeed (drop at text)) (m : end ≤ length text) where
-  pub turn-nothing : statementOf e (lineIn text at end) ≡ nothing → Turned e text t (end + 1) n p slots
+  pub turn-nothing : statementOf e (lineIn text at end) ≡ nothing → Going e text t slots₀ (end + 1) (n + 1) p slots
   turn-nothing x =
-      let cs = codes-nothing e n (waiting text p) text at end h k x in
+      let cs = codes-nothing e n (g .waiting) text at end h k x in
       record {
-        good = λ y z.
-            record {
-              near = omega arith;
-              few = omega (arith, g .few, k);
-              start = g .start;
-              size = g .size;
-              count = omega (arith, g .count, k);
-              offset = omega (arith, g .offset, k);
-              place = omega (arith, g .place, k);
-              fine = g .fine;
-              names = λ rest. g .names rest ∙ ap (λ (c : List Code). unlessBadName e c rest) cs;
-              taken = g .taken;
-              labels = g .labels ∙ ap (λ (c : List Code). g .taken ++ labelsFrom e (p .offset) c) cs;
-              noted = g .noted;
-            };
-        unknown = λ w. absurd (omega (arith, w, g .fine));
-        miscounted = λ w. absurd (omega (arith, w, g .fine));
+        near = omega arith;
+        few = omega (arith, g .few, k);
+        start = g .start;
+        size = g .size;
+        count = omega (arith, g .count, k);
+        offset = omega (arith, g .offset, k);
+        place = omega (arith, g .place, k);
+        waiting = g .waiting;
+        waits = g .waits;
+        names = λ rest. g .names rest ∙ ap (λ (c : List Code). unlessBadName e c rest) cs;
+        taken = g .taken;
+        labels = g .labels ∙ ap (λ (c : List Code). g .taken ++ labelsFrom e (p .offset) c) cs;
+        noted = g .noted;
       }
 
   pub turn-label : length text ≤ 1048576 → (a i : ℕ) → statementOf e (lineIn text at end) ≡ labelled (part (lineIn text at end) a i) → a + i ≤ length (lineIn text at end)
-      → Turned e text t (end + 1) n (labelRead p (at + a) i) slots
+      → Going e text t slots₀ (end + 1) (n + 1) (labelRead p (at + a) i) slots
   turn-label b a i x r =
       let f = part-part text at (lineLength text at end) a i r in
-      let cs = codes-label e n (waiting text p) text at end h k (part text (at + a) i) (x ∙ ap labelled f) in
+      let cs = codes-label e n (g .waiting) text at end h k (part text (at + a) i) (x ∙ ap labelled f) in
       let o : a + i ≤ end - at = omega (arith, r, line-short text at end) in
       record {
-        good = λ y z.
-            record {
-              near = omega arith;
-              few = omega (arith, g .few, k);
-              start = omega (arith, o, k);
-              size = omega (arith, o);
-              count = omega (arith, g .count, k);
-              offset = omega (arith, g .offset, k);
-              place = omega (arith, g .place, k);
-              fine = refl;
-              names = λ rest. g .names rest ∙ ap (λ (c : List Code). unlessBadName e c rest) cs;
-              taken = g .taken;
-              labels = g .labels ∙ ap (λ (c : List Code). g .taken ++ labelsFrom e (p .offset) c) cs;
-              noted = let u = g .noted in record { counted = u .counted; last = u .last; stored = u .stored };
-            };
-        unknown = λ w. absurd (let v : _≡_ {A = ℕ} 0 4 = w in omega (arith, v));
-        miscounted = λ w. absurd (let v : _≡_ {A = ℕ} 0 5 = w in omega (arith, v));
+        near = omega arith;
+        few = omega (arith, g .few, k);
+        start = omega (arith, o, k);
+        size = omega (arith, o);
+        count = omega (arith, g .count, k);
+        offset = omega (arith, g .offset, k);
+        place = omega (arith, g .place, k);
+        waiting = record { line = n; text = part text (at + a) i } ∷ g .waiting;
+        waits = (refl, refl);
+        names = λ rest. g .names rest ∙ ap (λ (c : List Code). unlessBadName e c rest) cs;
+        taken = g .taken;
+        labels = g .labels ∙ ap (λ (c : List Code). g .taken ++ labelsFrom e (p .offset) c) cs;
+        noted = let u = g .noted in record { counted = u .counted; last = u .last; stored = u .stored; kept = u .kept };
       }
 
   -- an instruction s
-  module _ (s : List ℕ) (x : statementOf e (lineIn text at end) ≡ instruction s) (slots′ : List (List ℕ)) (p′ : Progress) (d : CodeTaken e s text t slots p slots′ p′) where
+  module _ (s : List ℕ) (x : statementOf e (lineIn text at end) ≡ instruction s) (slots′ : List (List ℕ)) where
     abbrev here : Code
-    here = codeOf n (waiting text p) s
+    here = codeOf n (g .waiting) s
 
-    abbrev behind : Label → List Code
-    behind w = codesFrom e (n + 1) w (linesOf (drop (end + 1) text))
+    abbrev behind : List Code
+    behind = codesFrom e (n + 1) [] (linesOf (drop (end + 1) text))
 
-    names-here : (rest : Assembled) → unlessBadName e (codesOf e text) rest ≡ unlessBadName e (here ∷ behind none) rest
-    names-here rest = g .names rest ∙ ap (λ (c : List Code). unlessBadName e c rest) (codes-code e n (waiting text p) text at end h k s x)
+    names-here : (rest : Assembled) → unlessBadName e (codesOf e text) rest ≡ unlessBadName e (here ∷ behind) rest
+    names-here rest = g .names rest ∙ ap (λ (c : List Code). unlessBadName e c rest) (codes-code e n (g .waiting) text at end h k s x)
 
-    labels-here : labelsFrom e 0 (codesOf e text) ≡ g .taken ++ holding (waiting text p) (p .offset) [] ++ labelsFrom e (p .offset + sizeIn e here) (behind none)
+    labels-here : labelsFrom e 0 (codesOf e text) ≡ g .taken ++ holding (g .waiting) (p .offset) [] ++ labelsFrom e (p .offset + sizeIn e here) behind
     labels-here =
-        g .labels ∙ ap (λ (c : List Code). g .taken ++ labelsFrom e (p .offset) c) (codes-code e n (waiting text p) text at end h k s x)
-        ∙ ap (λ (ls : List LabelAt). g .taken ++ ls) (labels-cons e (p .offset) here (behind none))
-        ∙ sym (append-assoc (g .taken) (holding (waiting text p) (p .offset) []) (labelsFrom e (p .offset + sizeIn e here) (behind none)))
+        g .labels ∙ ap (λ (c : List Code). g .taken ++ labelsFrom e (p .offset) c) (codes-code e n (g .waiting) text at end h k s x)
+        ∙ ap (λ (ls : List LabelAt). g .taken ++ ls) (labels-cons e (p .offset) here behind)
+        ∙ sym (append-assoc (g .taken) (holding (g .waiting) (p .offset) []) (labelsFrom e (p .offset + sizeIn e here) behind))
 
-    code-on : Passed e s text t slots p slots′ p′ → Going e text t (end + 1) (n + 1) p′ slots′
-    code-on q =
-        let w : none ≡ waiting text p′ = rw (q .waits) in
-        let o : p .offset + sizeIn e here ≡ p′ .offset = ap (λ (i : ℕ). p .offset + i) (q .sized .size here (refl, refl)) ∙ sym (q .offset) in
+    code-on : (p′ : Progress) → Passed e n s text t slots p slots′ p′ → Going e text t slots₀ (end + 1) (n + 1) p′ slots′
+    code-on p′ q =
+        let o : p .offset + sizeIn e here ≡ p′ .offset = ap (λ (i : ℕ). p .offset + i) (q .sized .size (g .waiting)) ∙ sym (q .offset) in
         record {
           near = omega arith;
           few = omega (arith, g .few, k);
@@ -180,38 +162,33 @@ module _ (e : Context) (text t : List ℕ) (at n end : ℕ) (p : Progress) (slot
           count = omega (arith, g .count, q .count, k);
           offset = omega (arith, g .offset, q .offset, q .sized .short, k);
           place = q .place (65 * (end + 1)) (omega (arith, g .offset, k)) (omega (arith, g .place, k));
-          fine = q .refusal;
-          names = λ rest. names-here rest ∙ q .sized .passes here (refl, refl) (behind none) rest ∙ ap (λ (l : Label). unlessBadName e (behind l) rest) w;
-          taken = g .taken ++ holding (waiting text p) (p .offset) [];
-          labels = labels-here
-              ∙ ap (λ (i : ℕ). g .taken ++ holding (waiting text p) (p .offset) [] ++ labelsFrom e i (behind none)) o
-              ∙ ap (λ (l : Label). g .taken ++ holding (waiting text p) (p .offset) [] ++ labelsFrom e (p′ .offset) (behind l)) w;
-          noted = q .noted (g .taken) (g .noted);
+          waiting = [];
+          waits = q .waits;
+          names = λ rest. names-here rest ∙ q .sized .passes (g .waiting) behind rest;
+          taken = g .taken ++ holding (g .waiting) (p .offset) [];
+          labels = labels-here ∙ ap (λ (i : ℕ). g .taken ++ holding (g .waiting) (p .offset) [] ++ labelsFrom e i behind) o;
+          noted = q .noted slots₀ (g .waiting) (g .waits) (g .taken) (g .noted);
         }
 
-    pub turn-code : Turned e text t (end + 1) n p′ slots′
-    turn-code =
-        record {
-          good = λ y z. code-on (d .good y z);
-          unknown = λ w rest. names-here rest ∙ d .unknown w here (refl, refl) (behind none) rest;
-          miscounted = λ w rest. names-here rest ∙ d .miscounted w here (refl, refl) (behind none) rest;
-        }
+    pub turn-code : (r : Step) → CodeTaken e n s text t slots p slots′ r → Turned e text t slots₀ (end + 1) n r slots′
+    turn-code (On p′) d = code-on p′ d
+    turn-code (Refused y) d = λ rest. names-here rest ∙ d (g .waiting) behind rest
 
   -- by the line l that was read
   module _ (l : List ℕ) (f : l ≡ lineIn text at end) where
-    pub line-nothing : StatementIn (statementOf e l) l Nothing → Turned e text t (end + 1) n p slots
+    pub line-nothing : StatementIn (statementOf e l) l Nothing → Going e text t slots₀ (end + 1) (n + 1) p slots
     line-nothing u = turn-nothing (was-nothing (statementOf e (lineIn text at end)) (lineIn text at end) (rw f at u))
 
-    pub line-label : length text ≤ 1048576 → (a i : ℕ) → StatementIn (statementOf e l) l (LabelRead a i) → Turned e text t (end + 1) n (labelRead p (at + a) i) slots
+    pub line-label : length text ≤ 1048576 → (a i : ℕ) → StatementIn (statementOf e l) l (LabelRead a i) → Going e text t slots₀ (end + 1) (n + 1) (labelRead p (at + a) i) slots
     line-label b a i u =
         let v = was-label (statementOf e (lineIn text at end)) (lineIn text at end) a i (rw f at u) in
         turn-label b a i (v .0) (v .1)
 
-    pub line-code : (a b : ℕ) → StatementIn (statementOf e l) l (Instruction a b) → (slots′ : List (List ℕ)) (p′ : Progress) → CodeTaken e (part l a (b - a)) text t slots p slots′ p′
-        → Turned e text t (end + 1) n p′ slots′
-    line-code a b u slots′ p′ d =
+    pub line-code : (a b : ℕ) → StatementIn (statementOf e l) l (Instruction a b) → (slots′ : List (List ℕ)) (r : Step) → CodeTaken e n (part l a (b - a)) text t slots p slots′ r
+        → Turned e text t slots₀ (end + 1) n r slots′
+    line-code a b u slots′ r d =
         let v = was-code (statementOf e (lineIn text at end)) (lineIn text at end) a b (rw f at u) in
-        turn-code (part (lineIn text at end) a (b - a)) (v .0) slots′ p′ (rw f at d)
+        turn-code (part (lineIn text at end) a (b - a)) (v .0) slots′ r (rw f at d)
 
 -- a label stands inside the text
 pub label-near : (text : List ℕ) (at end : ℕ) (l : List ℕ) (x : definition.Statement) (a i : ℕ) → l ≡ lineIn text at end → StatementIn x l (LabelRead a i) → a ≤ end

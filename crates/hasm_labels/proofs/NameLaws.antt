@@ -20,8 +20,9 @@ use Rattle.spec_inputs.specs.Context.{Context}
 use Rattle.spec_hasm.specs.Text.{isWhite, isSolid}
 use Rattle.spec_hasm.specs.Split.{splitOutside, tokens, instructionName, instructionOperands}
 use Rattle.spec_hasm.specs.Line.{opcodeNamed}
-use Rattle.spec_hasm.specs.Assemble.{Assembled, Code, onName, unlessBadName, foundIn, rowOf}
-use Rattle.hasm_labels.specs.NameReads.{CodeIn, RefusedBy, Sized}
+use Rattle.spec_hasm.specs.Assemble.{Assembled, LabelLine, Code, onName, unlessBadName, foundIn, rowOf}
+use Rattle.answers.specs.declared.refusal.Refusal.the-variants.{UnknownName, OperandCount}
+use Rattle.hasm_labels.specs.NameReads.{codeOf, RefusedBy, Sized}
 
 -- an opcode that was found is one of the rows
 pub found-inside : (s name : List ℕ) (k : ℕ) (rows : List (List ℕ)) (o : ℕ) → findName s name k rows ≡ found o → o < k + length rows
@@ -42,48 +43,42 @@ pub was-missing : (x : Found) → Missing ≡ foundOf x → x ≡ missing
 was-missing (found i) e = absurd (let z : _≡_ {A = ℕ} 0 1 = cc e in omega (arith, z))
 was-missing missing e = refl
 
--- so it is not behind them
-pub row-inside : (s name : List ℕ) (rows : List (List ℕ)) (o : ℕ) → At o ≡ foundOf (findName s name 0 rows) → length rows ≤ o → ⊥
-row-inside s name rows o e l = omega (arith, found-inside s name 0 rows o (was-found (findName s name 0 rows) o e))
+-- so it is below their number
+pub row-below : (s name : List ℕ) (rows : List (List ℕ)) (o : ℕ) → At o ≡ foundOf (findName s name 0 rows) → length rows ≡ 256 → o < 256
+row-below s name rows o e l = omega (arith, found-inside s name 0 rows o (was-found (findName s name 0 rows) o e))
 
 found-in : (o : ℕ) → foundIn (found o) ≡ o
 unfolding foundIn
 found-in o = refl
 
--- the instruction s: its name ends at k, and the operands behind it start at a
-module _ (e : Context) (s : List ℕ) (k : ℕ) (p : k ≡ 0 + run isSolid s) where
+-- the instruction s on line n: its name ends at k, and the operands behind it start at a
+module _ (e : Context) (n : ℕ) (s : List ℕ) (k : ℕ) (p : k ≡ 0 + run isSolid s) where
   name-is : instructionName s ≡ take (k - 0) s
   unfolding instructionName
   name-is = let z : run isSolid s ≡ k - 0 = omega (arith, p) in rw z
 
-  pub name-unknown : Missing ≡ foundOf (opcodeNamed e (take (k - 0) s)) → RefusedBy e 4 s
+  pub name-unknown : Missing ≡ foundOf (opcodeNamed e (take (k - 0) s)) → RefusedBy e n s (UnknownName n)
   unfolding unlessBadName onName
-  name-unknown f c (g, h) cs rest = rw (g, name-is, was-missing (opcodeNamed e (take (k - 0) s)) f)
+  name-unknown f labels cs rest = rw (name-is, was-missing (opcodeNamed e (take (k - 0) s)) f)
 
   module _ (o : ℕ) (f : At o ≡ foundOf (opcodeNamed e (take (k - 0) s))) (a : ℕ) (q : a ≡ k + run isWhite (drop k s)) where
-    named : (c : Code) → CodeIn s c → opcodeNamed e (c .name) ≡ found o
-    named c (g, h) = rw (g, name-is) (was-found (opcodeNamed e (take (k - 0) s)) o f)
+    named : opcodeNamed e (instructionName s) ≡ found o
+    named = rw name-is (was-found (opcodeNamed e (take (k - 0) s)) o f)
 
-    counted : (given : ℕ) → given ≡ length (tokens (splitOutside (take (length s - a) (drop a s)))) → (c : Code) → CodeIn s c → length (c .operands) ≡ given
+    counted : (given : ℕ) → given ≡ length (tokens (splitOutside (take (length s - a) (drop a s)))) → length (instructionOperands s) ≡ given
     unfolding instructionOperands
-    counted given r c (g, h) =
+    counted given r =
         let z : run isSolid s ≡ k = omega (arith, p) in
-        rw (h, z, drop-drop (run isWhite (drop k s)) k s, sym q, r, tail-part s a)
+        rw (z, drop-drop (run isWhite (drop k s)) k s, sym q, r, tail-part s a)
 
     module _ (given : ℕ) (r : given ≡ length (tokens (splitOutside (take (length s - a) (drop a s))))) where
-      pub name-miscounted : (given ≡ countOf (rowOf e o) → ⊥) → RefusedBy e 5 s
+      pub name-miscounted : (given ≡ countOf (rowOf e o) → ⊥) → RefusedBy e n s (OperandCount n)
       unfolding unlessBadName onName
-      name-miscounted n c w cs rest = rw (named c w, counted given r c w, ne-eqb given (countOf (rowOf e o)) n)
+      name-miscounted m labels cs rest = rw (named, counted given r, ne-eqb given (countOf (rowOf e o)) m)
 
-      passing : (c : Code) → CodeIn s c → (cs : List Code) (rest : Assembled) → given ≡ countOf (rowOf e o) → unlessBadName e (c ∷ cs) rest ≡ unlessBadName e cs rest
+      passing : given ≡ countOf (rowOf e o) → (labels : List LabelLine) (cs : List Code) (rest : Assembled) → unlessBadName e (codeOf n labels s ∷ cs) rest ≡ unlessBadName e cs rest
       unfolding unlessBadName onName
-      passing c w cs rest n = rw (named c w, counted given r c w, eq-eqb given (countOf (rowOf e o)) n)
+      passing m labels cs rest = rw (named, counted given r, eq-eqb given (countOf (rowOf e o)) m)
 
-      pub name-sized : given ≡ countOf (rowOf e o) → (m : ℕ) → m ≡ lengthOf (rowOf e o) → m ≤ 65 → Sized e s m
-      name-sized n m l b = record { passes = pass; size = size; short = b }
-        where
-          pass : (c : Code) → CodeIn s c → (cs : List Code) (rest : Assembled) → unlessBadName e (c ∷ cs) rest ≡ unlessBadName e cs rest
-          pass c w cs rest = passing c w cs rest n
-
-          size : (c : Code) → CodeIn s c → lengthOf (rowOf e (foundIn (opcodeNamed e (c .name)))) ≡ m
-          size c w = rw (named c w, found-in o) (sym l)
+      pub name-sized : given ≡ countOf (rowOf e o) → (m : ℕ) → m ≡ lengthOf (rowOf e o) → m ≤ 65 → Sized e n s m
+      name-sized c m l b = record { passes = passing c; size = λ labels. rw (named, found-in o) (sym l); short = b }

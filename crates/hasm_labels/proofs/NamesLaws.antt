@@ -4,24 +4,22 @@ use mathlib.Core.Bool.{false}
 use Prim.Native.Nat.{ℕ, _+_, _≤_, _<_}
 use native.Mathlib.Omega.{arith}
 use mathlib.Core.List.{List, [], _++_, append-nil}
-use lib.ListN.{length, drop}
+use lib.ListN.{length, take, drop}
+use lib.Seq.{take-nil}
 use Rattle.lists.specs.Scan.{run}
 use Rattle.spec_inputs.specs.Context.{Context}
 use Rattle.spec_hasm.specs.Assemble.{Assembled, Code, LabelAt, codesOf, unlessBadName, labelsFrom, labelOffset}
 use Rattle.hasm_read.specs.Lines.{notFeed}
-use Rattle.hasm_labels.specs.Holding.{waiting}
 use Rattle.hasm_labels.specs.Going.{LineAt, Going}
-use Rattle.hasm_labels.specs.NamesRead.{NamesRead}
-use Rattle.hasm_labels.specs.NamesRead.NamesRead.{good}
-use Rattle.hasm_labels.specs.declared.names_pass.Names.the-variants.{Good}
+use Rattle.hasm_labels.specs.NamesRead.{AllNamed}
 use Rattle.hasm_labels.specs.declared.hold_label.Progress.{Progress}
 use Rattle.hasm_labels.proofs.CodeSteps.{codes-none}
 use Rattle.hasm_labels.proofs.LabelLaws.{offset-none, labels-none}
 
 abbrev atStart : Progress
-atStart = record { waits = false; start = 0; size = 0; count = 0; offset = 0; has = false; place = 0; refusal = 0 }
+atStart = record { waits = false; start = 0; size = 0; count = 0; offset = 0; has = false; place = 0 }
 
-pub going-start : (e : Context) (text t : List ℕ) (slots : List (List ℕ)) → Going e text t 0 1 atStart slots
+pub going-start : (e : Context) (text t : List ℕ) (slots : List (List ℕ)) → Going e text t slots 0 1 atStart slots
 going-start e text t slots =
     record {
       near = omega arith;
@@ -31,15 +29,16 @@ going-start e text t slots =
       count = omega arith;
       offset = omega arith;
       place = omega arith;
-      fine = refl;
+      waiting = [];
+      waits = refl;
       names = λ rest. refl;
       taken = [];
       labels = refl;
-      noted = record { counted = refl; last = offset-none t; stored = λ h. labels-none text slots };
+      noted = record { counted = refl; last = offset-none t; stored = labels-none text slots ∙ sym (take-nil (length slots)); kept = refl };
     }
 
 -- the next line
-pub going-line : {e : Context} {text t : List ℕ} {at n : ℕ} {p : Progress} {slots : List (List ℕ)} (end : ℕ) → Going e text t at n p slots → at < length text
+pub going-line : {e : Context} {text t : List ℕ} {slots₀ : List (List ℕ)} {at n : ℕ} {p : Progress} {slots : List (List ℕ)} (end : ℕ) → Going e text t slots₀ at n p slots → at < length text
     → (end ≡ at + run notFeed (drop at text)) × (end ≤ length text) → length text ≤ 1048576 → LineAt text at end p
 going-line end g h k s =
     record {
@@ -63,16 +62,18 @@ no-labels : (e : Context) (at : ℕ) → labelsFrom e at [] ≡ []
 unfolding labelsFrom
 no-labels e at = refl
 
-pub going-end : (e : Context) (text t : List ℕ) (at n : ℕ) (p : Progress) (slots : List (List ℕ)) → Going e text t at n p slots → length text ≤ at → length text ≤ 1048576
-    → NamesRead e text t slots (Good (p .count) (p .has) (p .place))
-going-end e text t at n p slots g h s =
-    let c = codes-none e n (waiting text p) text at h in
+pub going-end : (e : Context) (text t : List ℕ) (slots₀ : List (List ℕ)) (at n : ℕ) (p : Progress) (slots : List (List ℕ)) → Going e text t slots₀ at n p slots → length text ≤ at → length text ≤ 1048576
+    → AllNamed e text t slots₀ slots (p .count) (p .has) (p .place)
+going-end e text t slots₀ at n p slots g h s =
+    let c = codes-none e n (g .waiting) text at h in
     let l : labelsFrom e 0 (codesOf e text) ≡ g .taken =
     g .labels ∙ ap (λ (cs : List Code). g .taken ++ labelsFrom e (p .offset) cs) c
     ∙ ap (λ (ls : List LabelAt). g .taken ++ ls) (no-labels e (p .offset)) ∙ append-nil (g .taken) in
-    good (p .count) (p .has) (p .place) refl
-    (λ rest. g .names rest ∙ ap (λ (cs : List Code). unlessBadName e cs rest) c ∙ no-names e rest)
-    (g .noted .counted ∙ ap length (sym l))
-    (ap (λ (ls : List LabelAt). labelOffset ls t) l ∙ g .noted .last)
-    (omega (arith, g .place, g .near))
-    (λ k. g .noted .stored k ∙ sym l)
+    record {
+      named = λ rest. g .names rest ∙ ap (λ (cs : List Code). unlessBadName e cs rest) c ∙ no-names e rest;
+      counted = g .noted .counted ∙ ap length (sym l);
+      place = ap (λ (ls : List LabelAt). labelOffset ls t) l ∙ g .noted .last;
+      small = omega (arith, g .place, g .near);
+      stored = g .noted .stored ∙ ap (take (length slots)) (sym l);
+      kept = g .noted .kept;
+    }

@@ -7,7 +7,7 @@ use crate::label_entry::Slot;
 use slices::search::Found;
 
 // From the back, as of equal texts the last counts.
-pub fn find_label(text: &[u8], labels: &[Slot], t: &[u8]) -> Found
+pub(crate) fn find_label(text: &[u8], labels: &[Slot], t: &[u8]) -> Found
     ensures { λ r. ⌜ r ≡ foundOf (labelOffset (labelsIn (now (text .entry)) (now (labels .entry))) (now (t .entry))) ⌝ }
 {
     let n = labels.len();

@@ -4,8 +4,7 @@ use crate::label_entry::Entry;
 use crate::label_entry::Slot;
 
 // How far the pass over a text's lines has come: the label that waits, by its start and size; how many labels were taken; the
-// offset of the next instruction; whether a taken label has the text that is asked for, and the offset of the last one; and
-// the refusal of the last line, or 0.
+// offset of the next instruction; whether a taken label has the text that is asked for, and the offset of the last one.
 pub struct Progress {
     pub waits: bool,
     pub start: usize,
@@ -14,11 +13,10 @@ pub struct Progress {
     pub offset: usize,
     pub has: bool,
     pub place: usize,
-    pub refusal: u8,
 }
 
 // The next instruction takes the label that waits.
-pub fn hold_label(text: &[u8], labels: &mut [Slot], t: &[u8], p: Progress) -> Progress
+pub(crate) fn hold_label(text: &[u8], labels: &mut [Slot], t: &[u8], p: Progress) -> Progress
     requires { ⌜ Small p ⌝ }
     ensures { λ r. ⌜ Held (now (text .entry)) (now (t .entry)) (now (labels .entry)) p (now (labels .exit)) r ⌝ }
 {
@@ -45,7 +43,6 @@ pub fn hold_label(text: &[u8], labels: &mut [Slot], t: &[u8], p: Progress) -> Pr
             offset,
             has: true,
             place: offset,
-            refusal: 0,
         };
     }
     Progress {
@@ -56,6 +53,5 @@ pub fn hold_label(text: &[u8], labels: &mut [Slot], t: &[u8], p: Progress) -> Pr
         offset,
         has: p.has,
         place: p.place,
-        refusal: 0,
     }
 }

@@ -15,7 +15,7 @@ pub struct Entry {
     pub offset: u32,
 }
 
-pub fn slot_at(labels: &[Slot], k: usize) -> Entry
+pub(crate) fn slot_at(labels: &[Slot], k: usize) -> Entry
     requires { ⌜ k < length (now labels) ⌝ }
     ensures { λ r. ⌜ r ≡ slotAt (now (labels .entry)) k ⌝ }
 {
@@ -28,7 +28,7 @@ pub fn slot_at(labels: &[Slot], k: usize) -> Entry
 }
 
 // Stores a label as the k-th, where there is room.
-pub fn put_slot(labels: &mut [Slot], k: usize, l: Entry)
+pub(crate) fn put_slot(labels: &mut [Slot], k: usize, l: Entry)
     ensures { λ _. ⌜ now (labels .exit) ≡ set (now (labels .entry)) k (l .start ∷ l .size ∷ l .offset ∷ []) ⌝ }
 {
     if k < labels.len() {

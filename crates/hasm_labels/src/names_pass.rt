@@ -7,20 +7,21 @@ ghost use Rattle.sheet.specs.Keys.{NamesIndexed};
 ghost use Rattle.hasm_labels.specs.NamesRead.{NamesRead};
 use crate::hold_label::Progress;
 use crate::label_entry::Slot;
+use crate::take_line::Step;
+use answers::refusal::Refusal;
 
-// How many labels are taken, whether one has the text that was asked for, and the offset of the last one; or the line of a
-// name that the sheet does not have (4), or of one that has too few or too many operands (5).
+// How many labels are taken, whether one has the text that was asked for, and the offset of the last one; or the first name
+// that the sheet does not have (4) or that has too few or too many operands (5).
 pub enum Names {
     Good {
         count: usize,
         has: bool,
         offset: usize,
     },
-    Unknown(usize),
-    Count(usize),
+    Refused(Refusal),
 }
 
-// Reads the names, stores the labels that fit and looks for the label t.
+// Reads the names, stores the labels that fit and looks for the label t. A refusal clears the labels.
 pub fn read_names(
     text: &[u8],
     sheet: &[u8],
@@ -32,7 +33,7 @@ pub fn read_names(
 ) -> Names
     requires { ⌜ NamesIndexed (now sheet) (now ops) (now names) ⌝ }
     requires { ⌜ length (now text) ≤ textLimit ⌝ }
-    ensures { λ r. ⌜ ((bytes ends : List ℕ) → NamesRead (record { sheet = now (sheet .entry); types = now (types .entry); infos = now (ops .entry); bytes = bytes; ends = ends }) (now (text .entry)) (now (t .entry)) (now (labels .exit)) r) ⌝ }
+    ensures { λ r. ⌜ ((bytes ends : List ℕ) → NamesRead (record { sheet = now (sheet .entry); types = now (types .entry); infos = now (ops .entry); bytes = bytes; ends = ends }) (now (text .entry)) (now (t .entry)) (now (labels .entry)) (now (labels .exit)) r) ⌝ }
 {
     let mut p = Progress {
         waits: false,
@@ -42,19 +43,32 @@ pub fn read_names(
         offset: 0,
         has: false,
         place: 0,
-        refusal: 0,
     };
     let mut at: usize = 0;
     let mut n: usize = 1;
     while at < text.len() {
         let end = hasm_read::lines::line_end(text, at);
-        p = crate::take_line::take_line(text, at, end, sheet, types, ops, names, labels, t, p);
-        let refusal = p.refusal;
-        if refusal == 4 {
-            return Names::Unknown(n);
-        }
-        if refusal == 5 {
-            return Names::Count(n);
+        let step = crate::take_line::take_line(
+            text,
+            at,
+            end,
+            n,
+            sheet,
+            types,
+            ops,
+            names,
+            labels,
+            t,
+            p,
+        );
+        match step {
+            Step::On(next) => {
+                p = next;
+            }
+            Step::Refused(x) => {
+                slices::clearing::clear_labels(labels);
+                return Names::Refused(x);
+            }
         }
         at = end + 1;
         n += 1;

@@ -1,5 +1,4 @@
 // One line of the pass over names and labels.
-ghost use mathlib.Core.Path.{_≡_};
 ghost use mathlib.Core.List.{List};
 ghost use Prim.Native.Nat.{ℕ, _+_};
 ghost use Rattle.sheet.specs.Keys.{NamesIndexed};
@@ -8,27 +7,19 @@ ghost use Rattle.hasm_labels.specs.Going.{CodeTaken, LineAt, Going, Turn
 use crate::hold_label::Progress;
 use crate::instruction_name::Named;
 use crate::label_entry::Slot;
+use answers::refusal::Refusal;
 use hasm_read::statement::Statement;
 
-// The line is refused by a number.
-fn refuse(p: Progress, number: u8) -> Progress
-    ensures { λ r. ⌜ r .refusal ≡ number ⌝ }
-{
-    Progress {
-        waits: p.waits,
-        start: p.start,
-        size: p.size,
-        count: p.count,
-        offset: p.offset,
-        has: p.has,
-        place: p.place,
-        refusal: number,
-    }
+// How far the pass has come behind a line, or the line's refusal, 4 or 5.
+pub enum Step {
+    On(Progress),
+    Refused(Refusal),
 }
 
-// The instruction s takes the label that waits.
+// The instruction s on line n takes the label that waits.
 fn take_code(
     s: &[u8],
+    n: usize,
     sheet: &[u8],
     types: &[[u8; 8]; 256],
     ops: &[[usize; 4]; 256],
@@ -37,16 +28,16 @@ fn take_code(
     labels: &mut [Slot],
     t: &[u8],
     p: Progress,
-) -> Progress
+) -> Step
     requires { ⌜ NamesIndexed (now sheet) (now ops) (now names) ⌝ }
     requires { ⌜ Small p ⌝ }
-    ensures { λ r. ⌜ ((bytes ends : List ℕ) → CodeTaken (record { sheet = now (sheet .entry); types = now (types .entry); infos = now (ops .entry); bytes = bytes; ends = ends }) (now (s .entry)) (now (text .entry)) (now (t .entry)) (now (labels .entry)) p (now (labels .exit)) r) ⌝ }
+    ensures { λ r. ⌜ ((bytes ends : List ℕ) → CodeTaken (record { sheet = now (sheet .entry); types = now (types .entry); infos = now (ops .entry); bytes = bytes; ends = ends }) n (now (s .entry)) (now (text .entry)) (now (t .entry)) (now (labels .entry)) p (now (labels .exit)) r) ⌝ }
 {
-    let named = crate::instruction_name::read_name(s, sheet, types, ops, names);
+    let named = crate::instruction_name::read_name(s, n, sheet, types, ops, names);
     match named {
         Named::Size(size) => {
             let q = crate::hold_label::hold_label(text, labels, t, p);
-            Progress {
+            Step::On(Progress {
                 waits: false,
                 start: 0,
                 size: 0,
@@ -54,19 +45,18 @@ fn take_code(
                 offset: q.offset + size,
                 has: q.has,
                 place: q.place,
-                refusal: 0,
-            }
+            })
         }
-        Named::Unknown => refuse(p, 4),
-        Named::Count => refuse(p, 5),
+        Named::Refused(x) => Step::Refused(x),
     }
 }
 
-// The line from `at` to its end: a label waits from here on, and an instruction takes the one that does.
-pub fn take_line(
+// Line n, from `at` to its end: a label waits from here on, and an instruction takes the one that does.
+pub(crate) fn take_line(
     text: &[u8],
     at: usize,
     end: usize,
+    n: usize,
     sheet: &[u8],
     types: &[[u8; 8]; 256],
     ops: &[[usize; 4]; 256],
@@ -74,16 +64,16 @@ pub fn take_line(
     labels: &mut [Slot],
     t: &[u8],
     p: Progress,
-) -> Progress
+) -> Step
     requires { ⌜ NamesIndexed (now sheet) (now ops) (now names) ⌝ }
     requires { ⌜ LineAt (now text) at end p ⌝ }
-    ensures { λ r. ⌜ ((bytes ends : List ℕ) (n : ℕ) → Going (record { sheet = now (sheet .entry); types = now (types .entry); infos = now (ops .entry); bytes = bytes; ends = ends }) (now (text .entry)) (now (t .entry)) at n p (now (labels .entry)) → Turned (record { sheet = now (sheet .entry); types = now (types .entry); infos = now (ops .entry); bytes = bytes; ends = ends }) (now (text .entry)) (now (t .entry)) (end + 1) n r (now (labels .exit))) ⌝ }
+    ensures { λ r. ⌜ ((bytes ends : List ℕ) (slots : List (List ℕ)) → Going (record { sheet = now (sheet .entry); types = now (types .entry); infos = now (ops .entry); bytes = bytes; ends = ends }) (now (text .entry)) (now (t .entry)) slots at n p (now (labels .entry)) → Turned (record { sheet = now (sheet .entry); types = now (types .entry); infos = now (ops .entry); bytes = bytes; ends = ends }) (now (text .entry)) (now (t .entry)) slots (end + 1) n r (now (labels .exit))) ⌝ }
 {
     let line = hasm_read::lines::line_of(text, at, end);
     let statement = hasm_read::statement::read_statement(line, sheet, ops, names);
     match statement {
-        Statement::Nothing => p,
-        Statement::Label(a, m) => Progress {
+        Statement::Nothing => Step::On(p),
+        Statement::Label(a, m) => Step::On(Progress {
             waits: true,
             start: at + a,
             size: m,
@@ -91,10 +81,9 @@ pub fn take_line(
             offset: p.offset,
             has: p.has,
             place: p.place,
-            refusal: 0,
-        },
+        }),
         Statement::Instruction(a, b) => {
-            take_code(&line[a..b], sheet, types, ops, names, text, labels, t, p)
+            take_code(&line[a..b], n, sheet, types, ops, names, text, labels, t, p)
         }
     }
 }

@@ -10,17 +10,18 @@ use lib.ListN.{length, drop}
 use Rattle.lists.specs.Scan.{run, all}
 use Rattle.spec_hasm.specs.Text.{linesOf}
 use Rattle.spec_hasm.specs.Assemble.{Assembled, isTextByte, unlessBadLine}
-use Rattle.spec_hasm.specs.Assemble.Assembled.{refusedAt}
+use Rattle.spec_hasm.specs.Assemble.Assembled.{notAssembled}
+use Rattle.answers.specs.declared.refusal.Refusal.the-variants.{BadByte, LongLine}
 use Rattle.hasm_read.specs.Lines.{notFeed, lineIn}
 use Rattle.hasm_read.proofs.LineLaws.{line-next, lines-none}
 
 -- line n is too long; it has a byte that is no text; it is good
 module _ (n : ℕ) (l : List ℕ) (ls : List (List ℕ)) (rest : Assembled) where
-  check-long : 4096 < length l → unlessBadLine n (l ∷ ls) rest ≡ refusedAt 3 n 0
+  check-long : 4096 < length l → unlessBadLine n (l ∷ ls) rest ≡ notAssembled (LongLine n)
   unfolding unlessBadLine
   check-long h = rw (lt-ltb 4096 (length l) h)
 
-  check-bad : length l ≤ 4096 → all isTextByte l ≡ false → unlessBadLine n (l ∷ ls) rest ≡ refusedAt 2 n 0
+  check-bad : length l ≤ 4096 → all isTextByte l ≡ false → unlessBadLine n (l ∷ ls) rest ≡ notAssembled (BadByte n)
   unfolding unlessBadLine
   check-bad h e = rw (le-ltb 4096 (length l) h, e)
 
@@ -46,11 +47,11 @@ module _ (s : List ℕ) (at n end : ℕ) (l : List ℕ) (g : Going s at n) (h : 
   here : (rest : Assembled) → unlessBadLine 1 (linesOf s) rest ≡ unlessBadLine n (l ∷ linesOf (drop (end + 1) s)) rest
   here rest = g .left rest ∙ rw (line-next s at end h e, f)
 
-  pub going-long : 4096 < length l → (rest : Assembled) → unlessBadLine 1 (linesOf s) rest ≡ refusedAt 3 n 0
+  pub going-long : 4096 < length l → (rest : Assembled) → unlessBadLine 1 (linesOf s) rest ≡ notAssembled (LongLine n)
   going-long k rest = here rest ∙ check-long n l (linesOf (drop (end + 1) s)) rest k
 
   module _ (k : length l ≤ 4096) where
-    pub going-bad : all isTextByte l ≡ false → (rest : Assembled) → unlessBadLine 1 (linesOf s) rest ≡ refusedAt 2 n 0
+    pub going-bad : all isTextByte l ≡ false → (rest : Assembled) → unlessBadLine 1 (linesOf s) rest ≡ notAssembled (BadByte n)
     going-bad b rest = here rest ∙ check-bad n l (linesOf (drop (end + 1) s)) rest k b
 
     pub going-on : end ≤ length s → all isTextByte l ≡ true → Going s (end + 1) (n + 1)

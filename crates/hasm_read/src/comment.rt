@@ -57,7 +57,7 @@ fn inside_quotes(s: &[u8], at: usize) -> usize
 }
 
 // How many bytes stand before the comment. Each quote takes stack, so a line's length is tested first.
-pub fn comment_start(s: &[u8]) -> usize
+pub(crate) fn comment_start(s: &[u8]) -> usize
     ensures { λ r. ⌜ (r ≡ outside 0 (now (s .entry))) × (r ≤ length (now (s .entry))) ⌝ }
 {
     outside_quotes(s, 0)

@@ -60,7 +60,7 @@ fn is_letter_at(s: &[u8], i: usize) -> bool
 }
 
 // Where the instruction starts: behind an offset, or 0. The search for the name comes last, as it costs most.
-pub fn behind_offset(s: &[u8], sheet: &[u8], ops: &[[usize; 4]; 256], names: &[u32]) -> usize
+pub(crate) fn behind_offset(s: &[u8], sheet: &[u8], ops: &[[usize; 4]; 256], names: &[u32]) -> usize
     requires { ⌜ NamesIndexed (now sheet) (now ops) (now names) ⌝ }
     ensures { λ r. ⌜ ((types : List (List ℕ)) (bytes ends : List ℕ) → behindOffset (record { sheet = now (sheet .entry); types = types; infos = now (ops .entry); bytes = bytes; ends = ends }) (now (s .entry)) ≡ drop r (now (s .entry))) × (r ≤ length (now (s .entry))) ⌝ }
 {

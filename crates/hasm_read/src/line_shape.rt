@@ -6,7 +6,7 @@ ghost use Rattle.spec_hasm.specs.Line.{isSkipped, isLabel};
 use slices::compare::opens_at;
 
 // An empty line or a banner. Most lines are neither, so the first byte is looked at before a text is compared.
-pub fn is_skipped(s: &[u8]) -> bool
+pub(crate) fn is_skipped(s: &[u8]) -> bool
     ensures { λ r. ⌜ r ≡ isSkipped (now (s .entry)) ⌝ }
 {
     if s.len() == 0 {
@@ -35,7 +35,7 @@ fn all_digits(s: &[u8]) -> bool
 }
 
 // `L`, digits or none, and a colon.
-pub fn is_label(s: &[u8]) -> bool
+pub(crate) fn is_label(s: &[u8]) -> bool
     ensures { λ r. ⌜ r ≡ isLabel (now (s .entry)) ⌝ }
 {
     let n = s.len();

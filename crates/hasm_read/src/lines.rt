@@ -7,6 +7,7 @@ ghost use Rattle.spec_hasm.specs.Text.{linesOf};
 ghost use Rattle.spec_hasm.specs.Assemble.{Assembled, isTextByte, unlessBadLine};
 ghost use Rattle.hasm_read.specs.Lines.{notFeed, lineLength, lineIn};
 ghost use Rattle.hasm_read.specs.Refusals.{checkedOr};
+use answers::refusal::Refusal;
 
 // Where the next LF stands, or the end.
 pub fn line_end(s: &[u8], at: usize) -> usize
@@ -56,11 +57,10 @@ fn is_text(line: &[u8]) -> bool
     slices::class::all_in(line, TEXT)
 }
 
-// Whether all lines are good, or the first that is too long (3) or no text (2), by its number.
+// Whether all lines are good, or the refusal of the first that is too long (3) or no text (2).
 pub enum Checked {
     Good,
-    Long(usize),
-    Bad(usize),
+    Refused(Refusal),
 }
 
 pub fn check_lines(text: &[u8]) -> Checked
@@ -74,10 +74,10 @@ pub fn check_lines(text: &[u8]) -> Checked
         let long = limits::LINE_LIMIT < line.len();
         let good = is_text(line);
         if long {
-            return Checked::Long(n);
+            return Checked::Refused(Refusal::LongLine(n));
         }
         if !good {
-            return Checked::Bad(n);
+            return Checked::Refused(Refusal::BadByte(n));
         }
         at = end + 1;
         n += 1;

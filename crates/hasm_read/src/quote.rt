@@ -5,7 +5,7 @@ ghost use lib.ListN.{length};
 ghost use Rattle.hasm_read.specs.Quotes.{quoteAt};
 
 // Whether a quote stands at i. The byte before is looked at only behind a quote, as most bytes are none.
-pub fn is_quote_at(s: &[u8], i: usize, escapes: bool) -> bool
+pub(crate) fn is_quote_at(s: &[u8], i: usize, escapes: bool) -> bool
     requires { ⌜ i < length (now s) ⌝ }
     ensures { λ r. ⌜ r ≡ quoteAt escapes (now (s .entry)) i ⌝ }
 {

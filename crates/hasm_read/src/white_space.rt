@@ -7,7 +7,7 @@ ghost use Rattle.spec_hasm.specs.Text as definition;
 ghost use Rattle.spec_hasm.specs.Text.{isWhite, solidLength};
 ghost use Rattle.hasm_read.specs.Spaces.{isSpace};
 
-pub fn is_white(b: u8) -> bool
+pub(crate) fn is_white(b: u8) -> bool
     ensures { λ r. ⌜ r ≡ isWhite b ⌝ }
 {
     if slices::compare::is_within(9, 13, b) {
@@ -40,7 +40,7 @@ pub fn skip(s: &[u8], at: usize, white: bool) -> usize
 }
 
 // How many bytes there are without the white space at the end.
-pub fn solid_length(s: &[u8]) -> usize
+pub(crate) fn solid_length(s: &[u8]) -> usize
     ensures { λ r. ⌜ (r ≡ solidLength (now (s .entry))) × (r ≤ length (now (s .entry))) ⌝ }
 {
     let mut n = s.len();

@@ -15,6 +15,7 @@ use Rattle.spec_numbers.specs.Parse.{Parsed, parseU32}
 use Rattle.spec_numbers.specs.Parse.Parsed.{is, bad}
 use Rattle.spec_numbers.specs.TwosComplement.{wrapSub}
 use Rattle.spec_numbers.proofs.ParseLaws.{u32-bound}
+use Rattle.answers.specs.declared.refusal.OperandFault.the-variants as fault
 use Rattle.spec_hasm.specs.Token.{foundOr, offsetOr, targetIn, isNear, distanceTo}
 use Rattle.spec_hasm.specs.Token.Value.{value, refused}
 use Rattle.numbers.specs.Answers.{numberOf}
@@ -27,7 +28,7 @@ use Rattle.hasm_tokens.proofs.BoundLaws.{refused-not-value, same-value}
 
 -- a target: an empty token, no `L`, `L` and no number, and `L` and a number
 module _ (t : List ℕ) (labels : List ℕ → Found) where
-  pub target-not : (getD t 0 0 ≡ 76 → ⊥) → targetIn labels t ≡ refused 7
+  pub target-not : (getD t 0 0 ≡ 76 → ⊥) → targetIn labels t ≡ refused fault.Address
   unfolding targetIn
   target-not h = rw (ne-eqb _ _ h)
 
@@ -35,7 +36,7 @@ module _ (t : List ℕ) (labels : List ℕ → Found) where
   unfolding targetIn
   target-by p h e = rw (eq-eqb _ _ h, e)
 
-  pub target-label : getD t 0 0 ≡ 76 → numberOf (parseU32 (take (length t - 1) (drop 1 t))) ≡ number.Bad → targetIn labels t ≡ foundOr 7 (labels t)
+  pub target-label : getD t 0 0 ≡ 76 → numberOf (parseU32 (take (length t - 1) (drop 1 t))) ≡ number.Bad → targetIn labels t ≡ foundOr fault.Address (labels t)
   unfolding offsetOr
   target-label h e = target-by bad h (number-bad (parseU32 (drop 1 t)) (rw (tail-part t 1) at e))
 
@@ -43,7 +44,7 @@ module _ (t : List ℕ) (labels : List ℕ → Found) where
   unfolding offsetOr
   target-offset n h e = target-by (is n) h (number-is (parseU32 (drop 1 t)) n (rw (tail-part t 1) at e))
 
-pub target-none : (t : List ℕ) (labels : List ℕ → Found) → length t ≡ 0 → targetIn labels t ≡ refused 7
+pub target-none : (t : List ℕ) (labels : List ℕ → Found) → length t ≡ 0 → targetIn labels t ≡ refused fault.Address
 unfolding targetIn
 target-none [] labels h = refl
 target-none (b ∷ s) labels h = absurd (omega arith)
@@ -86,6 +87,6 @@ module _ (width offset target d : ℕ) (e : d ≡ wrapSub target offset) where
     unfolding distanceTo
     distance-near h = rw (ne-eqb width 4 w, sym e, h)
 
-    pub distance-far : isNear d ≡ false → distanceTo width offset (value target) ≡ refused 8
+    pub distance-far : isNear d ≡ false → distanceTo width offset (value target) ≡ refused fault.Distance
     unfolding distanceTo
     distance-far h = rw (ne-eqb width 4 w, sym e, h)

@@ -13,34 +13,36 @@ use Rattle.spec_numbers.specs.Double.{bitsOfWhole, negative, infinityText, hexM
 use Rattle.spec_numbers.proofs.ParseLaws.{unsigned-bound, u32-bound, i32-bound}
 use Rattle.spec_numbers.proofs.WholeLaws.{bad-not-is, same-is, bits-below}
 use Rattle.numbers.proofs.ReadLaws.{digits-many, digits-are, whole-minus, whole-plus, whole-plain, double-infinity, double-minus-infinity, double-hex, double-whole}
+use Rattle.answers.specs.declared.refusal.OperandFault.{OperandFault}
+use Rattle.answers.specs.declared.refusal.OperandFault.the-variants as fault
 use Rattle.spec_hasm.specs.Line.{hasHexPrefix}
 use Rattle.spec_hasm.specs.Token as definition
 use Rattle.spec_hasm.specs.Token.{numberOr}
 use Rattle.spec_hasm.specs.Token.Value.{value, refused}
 
 -- a value is no refusal
-pub refused-not-value : {P : Type 0} {k n : ℕ} → refused k ≡ value n → P
+pub refused-not-value : {P : Type 0} {f : OperandFault} {n : ℕ} → refused f ≡ value n → P
 refused-not-value e = absurd (let z : _≡_ {A = ℕ} 0 1 = cc e in omega arith)
 
 pub same-value : {m n : ℕ} → value m ≡ value n → m ≡ n
 same-value e = cc e
 
 -- a value was read
-pub number-was : (k n : ℕ) (p : Parsed) → numberOr k p ≡ value n → p ≡ is n
+pub number-was : (f : OperandFault) (n : ℕ) (p : Parsed) → numberOr f p ≡ value n → p ≡ is n
 unfolding numberOr
-number-was k n (is m) e = ap is (same-value e)
-number-was k n bad e = refused-not-value e
+number-was f n (is m) e = ap is (same-value e)
+number-was f n bad e = refused-not-value e
 
 module _ (t : List ℕ) (n : ℕ) where
   pub unsigned-below : definition.unsignedValue t ≡ value n → n < 2 ^ 32
   unfolding definition.unsignedValue
   unsigned-below e =
       by-test (hasHexPrefix t)
-      (λ y. u32-bound 16 n (drop 2 t) (number-was 11 n (parseHex (drop 2 t)) (rw y at e)))
-      (λ y. u32-bound 10 n t (number-was 11 n (parseU32 t) (rw y at e)))
+      (λ y. u32-bound 16 n (drop 2 t) (number-was fault.Number n (parseHex (drop 2 t)) (rw y at e)))
+      (λ y. u32-bound 10 n t (number-was fault.Number n (parseU32 t) (rw y at e)))
 
-  pub signed-below : numberOr 11 (parseI32 t) ≡ value n → n < 2 ^ 32
-  signed-below e = i32-bound n t (number-was 11 n (parseI32 t) e)
+  pub signed-below : numberOr fault.Number (parseI32 t) ≡ value n → n < 2 ^ 32
+  signed-below e = i32-bound n t (number-was fault.Number n (parseI32 t) e)
 
 -- a double that was read: the digits of a whole number with a sign, hexadecimal digits, and a word
 digits-below : (sign n : ℕ) (s : List ℕ) → sign ≤ 2 ^ 63 → withSign sign (wholeDigits s) ≡ is n → n < 2 ^ 64

@@ -4,6 +4,7 @@ use mathlib.Core.Bool.{Bool, true, false}
 use mathlib.Core.List.{List, [], _∷_}
 use Prim.Native.Nat.{ℕ, zero, suc, _+_, _-_, _≤_, _<_}
 use native.Mathlib.Omega.{arith}
+use native.Mathlib.Nat.{zero-add}
 use lib.Dec.{eqb, leb}
 use lib.ListN.{length, take, drop, getD}
 use lib.Seq.{take-append-seam}
@@ -14,6 +15,8 @@ use Rattle.lists.specs.Scan.{all}
 use Rattle.lists.specs.Write.{Put}
 use Rattle.lists.proofs.Tests.{by-test, both-left, both-right, not-true}
 use Rattle.lists.proofs.Writes.{put-fits, kept-length}
+use Rattle.answers.specs.declared.refusal.OperandFault.{OperandFault}
+use Rattle.answers.specs.declared.refusal.OperandFault.the-variants as fault
 use Rattle.spec_strings.specs.Escape.{unescape}
 use Rattle.spec_strings.specs.Table.{lookup}
 use Rattle.spec_hasm.specs.Token.{foundOr, unsignedValue, isQuoted, unquoted, stringValue}
@@ -22,7 +25,7 @@ use Rattle.slices.specs.Answers.{foundOf}
 use Rattle.slices.specs.declared.search.Found.{Found}
 use Rattle.hasm_tokens.specs.declared.number_token.Value.{Value}
 use Rattle.hasm_tokens.specs.Values.{tokenAnswer}
-use Rattle.hasm_tokens.specs.TextValues.{indexOr, isLiteral}
+use Rattle.hasm_tokens.specs.TextValues.{indexOr, isLiteral, meantIn, workAfter}
 
 module _ (b : ℕ) (s : List ℕ) where
   unescape-go : eqb b 92 ≡ false → unescape false (b ∷ s) ≡ b ∷ unescape false s
@@ -64,16 +67,27 @@ module _ (out s after : List ℕ) (n : ℕ) (h : length s ≤ length out) (p : P
       let u = unescape false s in
       rw (written-count, p .bytes, put-fits out 0 u (omega (arith, unescape-short false s))) (take-append-seam u (drop (0 + length u) out))
 
+  pub work-meant : all isLiteral s ≡ false → after ≡ meantIn s out
+  unfolding meantIn
+  work-meant e =
+      let u = unescape false s in
+      rw (e, p .bytes, put-fits out 0 u (omega (arith, unescape-short false s)), zero-add (length u)) refl
+
+-- a text that means itself leaves the work buffer as it was
+pub work-literal : (s work : List ℕ) → all isLiteral s ≡ true → work ≡ meantIn s work
+unfolding meantIn
+work-literal s work e = rw e refl
+
 -- an index that was found, or else a refusal
-index-or : (number : ℕ) (f : search.Found) → indexOr number (foundOf f) ≡ tokenAnswer (foundOr number f)
+index-or : (f : OperandFault) (x : search.Found) → indexOr f (foundOf x) ≡ tokenAnswer (foundOr f x)
 unfolding foundOr
-index-or number (found n) = refl
-index-or number missing = refl
+index-or f (found n) = refl
+index-or f missing = refl
 
 -- what stands between quotes, looked up as it stands where that is what it means
 module _ (bytes ends s : List ℕ) {u : List ℕ} {m : Found} {v : Value} where
-  pub text-read : u ≡ unescape false s → m ≡ foundOf (lookup u bytes ends) → v ≡ indexOr 10 m → v ≡ tokenAnswer (foundOr 10 (lookup (unescape false s) bytes ends))
-  text-read q e g = g ∙ ap (indexOr 10) (e ∙ ap (λ (w : List ℕ). foundOf (lookup w bytes ends)) q) ∙ index-or 10 (lookup (unescape false s) bytes ends)
+  pub text-read : u ≡ unescape false s → m ≡ foundOf (lookup u bytes ends) → v ≡ indexOr fault.Text m → v ≡ tokenAnswer (foundOr fault.Text (lookup (unescape false s) bytes ends))
+  text-read q e g = g ∙ ap (indexOr fault.Text) (e ∙ ap (λ (w : List ℕ). foundOf (lookup w bytes ends)) q) ∙ index-or fault.Text (lookup (unescape false s) bytes ends)
 
 -- what stands between the quotes, as it is lent
 lent-inside : (n b : ℕ) (s : List ℕ) → take (n - 1) s ≡ drop 1 (take n (b ∷ s))
@@ -104,19 +118,36 @@ module _ (bytes ends t : List ℕ) where
   unfolding stringValue
   string-number h = rw (ne-eqb (getD t 0 0) 34 h)
 
-  pub string-open : getD t 0 0 ≡ 34 → isQuoted t ≡ false → stringValue bytes ends t ≡ refused 9
+  pub string-open : getD t 0 0 ≡ 34 → isQuoted t ≡ false → stringValue bytes ends t ≡ refused fault.Quotes
   unfolding stringValue
   string-open h e = rw (eq-eqb (getD t 0 0) 34 h, e)
 
-  string-text : getD t 0 0 ≡ 34 → isQuoted t ≡ true → stringValue bytes ends t ≡ foundOr 10 (lookup (unquoted t) bytes ends)
+  string-text : getD t 0 0 ≡ 34 → isQuoted t ≡ true → stringValue bytes ends t ≡ foundOr fault.Text (lookup (unquoted t) bytes ends)
   unfolding stringValue
   string-text h e = rw (eq-eqb (getD t 0 0) 34 h, e)
 
   pub string-read : {v : Value} → getD t 0 0 ≡ 34 → isQuoted t ≡ true
-      → v ≡ tokenAnswer (foundOr 10 (lookup (unescape false (take (length t - 1 - 1) (drop 1 t))) bytes ends)) → v ≡ tokenAnswer (stringValue bytes ends t)
+      → v ≡ tokenAnswer (foundOr fault.Text (lookup (unescape false (take (length t - 1 - 1) (drop 1 t))) bytes ends)) → v ≡ tokenAnswer (stringValue bytes ends t)
   string-read h e g = (rw (inside-is t) at g) ∙ sym (ap tokenAnswer (string-text h e))
 
+-- and the work buffer behind each
+module _ (t work : List ℕ) where
+  pub work-number : (getD t 0 0 ≡ 34 → ⊥) → work ≡ workAfter t work
+  unfolding workAfter
+  work-number h = rw (ne-eqb (getD t 0 0) 34 h) refl
+
+  pub work-open : getD t 0 0 ≡ 34 → isQuoted t ≡ false → work ≡ workAfter t work
+  unfolding workAfter
+  work-open h e = rw (eq-eqb (getD t 0 0) 34 h, e) refl
+
+  pub work-text : {after : List ℕ} → getD t 0 0 ≡ 34 → isQuoted t ≡ true → after ≡ meantIn (take (length t - 1 - 1) (drop 1 t)) work → after ≡ workAfter t work
+  unfolding workAfter
+  work-text h e g = rw (eq-eqb (getD t 0 0) 34 h, e) (rw (inside-is t) at g)
+
+-- an empty token opens with no quote
+pub not-quoted : (t : List ℕ) → length t ≡ 0 → getD t 0 0 ≡ 34 → ⊥
+not-quoted [] h e = omega (arith, e)
+not-quoted (b ∷ s) h e = omega arith
+
 pub string-empty : (bytes ends t : List ℕ) → length t ≡ 0 → stringValue bytes ends t ≡ unsignedValue t
-unfolding stringValue
-string-empty bytes ends [] h = refl
-string-empty bytes ends (b ∷ s) h = absurd (omega arith)
+string-empty bytes ends t h = string-number bytes ends t (not-quoted t h)

@@ -8,6 +8,7 @@ ghost use Rattle.spec_hasm.specs.Token.Value.{value};
 ghost use Rattle.hasm_tokens.specs.Values.{tokenAnswer};
 ghost use Rattle.hasm_tokens.specs.Targets.{targetOr};
 use crate::number_token::Value;
+use answers::refusal::OperandFault;
 use numbers::parse::Number;
 use numbers::parse::parse_u32;
 use numbers::signed::wrapping_distance;
@@ -55,7 +56,7 @@ pub fn distance_to(width: usize, offset: u64, target: u64) -> Value
         return Value::Bits(distance as u64);
     }
     if !is_near(distance) {
-        return Value::Refused(8);
+        return Value::Refused(OperandFault::Distance);
     }
     Value::Bits(distance as u64)
 }

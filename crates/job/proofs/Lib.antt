@@ -1,5 +1,13 @@
+pub mod HexLoop
+pub mod HexAnswerLaws
+pub mod StringsLoop
+pub mod TableAnswerLaws
+pub mod InputsLaws
+pub mod BodyLaws
+pub mod AskedLaws
+pub mod ReadLaws
 pub mod PrintLaws
-pub mod SoundLaws
+pub mod AnswerLaws
 pub mod ListLaws
 pub mod AssembleLaws
 pub mod RunLaws

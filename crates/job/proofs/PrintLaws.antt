@@ -1,10 +1,12 @@
 -- Bytes in hex, and how much of a text is printed. Assumes nothing.
 use mathlib.Core.Path.{_≡_, refl, ap, sym, _∙_}
+use mathlib.Core.Bool.{Bool, true, false}
 use mathlib.Core.List.{List, [], _∷_, _++_, append-assoc, append-nil}
 use Prim.Native.Nat.{ℕ, _+_, _*_, _^_, _<_, _≤_}
 use native.Mathlib.Omega.{arith}
 use lib.ListN.{length, getD, take, length-append}
-use lib.Seq.{take-suc, take-all}
+use lib.Seq.{take-suc, take-all, length-take-le}
+use borrow.Author.Tests.{eq-eqb, ne-eqb}
 use native.Mathlib.Numerals.{add-one}
 use Rattle.lists.specs.Text.{text}
 use Rattle.lists.specs.Write.{Put}
@@ -12,7 +14,11 @@ use Rattle.lists.proofs.Writes.{_then_, same-piece}
 use Rattle.spec_numbers.specs.Print.{decimal, padded, hexUpper}
 use Rattle.spec_numbers.proofs.PrintLaws.{decimal-length, padded-length, hexUpper-few}
 use Rattle.spec_job.specs.Printed.{jobRun, refusedText, hexOf, bodyText, formOf, printedOf, printedJob}
-use Rattle.job.specs.Prints.{Prints}
+use Rattle.limits.specs.Limits.{jobOutput}
+use Rattle.answers.specs.Report.{Report}
+use Rattle.answers.specs.Refusals.{refusalReport}
+use Rattle.answers.specs.declared.refusal.Refusal.the-variants.{Malformed}
+use Rattle.job.specs.Prints.{Prints, answerText}
 use Rattle.spec_job.specs.Job.{JobRead}
 use Rattle.spec_job.specs.Job.JobRead.{badLine}
 
@@ -53,33 +59,59 @@ unfolding bodyText text
 body-length s e = omega (arith, e, length-append (text "body=" ++ hexOf s) (text "\n"), length-append (text "body=") (hexOf s))
 
 -- three numbers of at most 20 digits
-refused-length : (number place operand : ℕ) → length (refusedText number place operand) ≤ 100
+refused-length : (p : Report) → length (refusedText p) ≤ 100
 unfolding refusedText text
-refused-length number place operand =
-    let a = text "refused=" ++ decimal number in
-    let b = a ++ text " place=" ++ decimal place in
-    let c = b ++ text " operand=" ++ decimal operand in
+refused-length p =
+    let a = text "refused=" ++ decimal (p .number) in
+    let b = a ++ text " place=" ++ decimal (p .place) in
+    let c = b ++ text " operand=" ++ decimal (p .operand) in
     omega (
       arith,
-      length-append (text "refused=") (decimal number),
+      length-append (text "refused=") (decimal (p .number)),
       length-append a (text " place="),
-      length-append (a ++ text " place=") (decimal place),
+      length-append (a ++ text " place=") (decimal (p .place)),
       length-append b (text " operand="),
-      length-append (b ++ text " operand=") (decimal operand),
+      length-append (b ++ text " operand=") (decimal (p .operand)),
       length-append c (text "\n"),
-      decimal-length number,
-      decimal-length place,
-      decimal-length operand,
+      decimal-length (p .number),
+      decimal-length (p .place),
+      decimal-length (p .operand),
     )
 
-pub refusal-prints : {before after : List ℕ} {r : ℕ} (number place operand : ℕ) → Put before 0 (refusedText number place operand) after r → Prints (refusedText number place operand) before after r
-refusal-prints number place operand w = record { put = w; few = omega (arith, refused-length number place operand) }
+pub refusal-prints : {before after : List ℕ} {r : ℕ} (p : Report) → Put before 0 (refusedText p) after r → Prints (refusedText p) before after r
+refusal-prints p w = record { put = w; few = omega (arith, refused-length p) }
 
 -- the same text by another name
 pub same-print : {p q before after : List ℕ} {r : ℕ} → p ≡ q → Prints p before after r → Prints q before after r
 same-print e w = rw e at w
 
 -- a malformed line
-pub line-prints : (job : List ℕ) {x : JobRead} {bad : ℕ} {before after : List ℕ} {r : ℕ} → x ≡ badLine bad → Put before 0 (refusedText 1 bad 0) after r → Prints (printedJob job x) before after r
+pub line-prints : (job : List ℕ) {x : JobRead} {bad : ℕ} {before after : List ℕ} {r : ℕ} → x ≡ badLine bad → Put before 0 (refusedText (refusalReport (Malformed bad))) after r → Prints (printedJob job x) before after r
 unfolding jobRun formOf printedOf
-line-prints job {bad = bad} e w = rw e (refusal-prints 1 bad 0 w)
+line-prints job {bad = bad} e w = rw e (refusal-prints (refusalReport (Malformed bad)) w)
+
+-- an answer as it is printed
+module _ (hex : Bool) (p : Report) (out before after : List ℕ) (r : ℕ) where
+  pub prints-refusal : (p .number ≡ 0 → ⊥) → Put before 0 (refusedText p) after r → Prints (answerText hex p out) before after r
+  unfolding answerText
+  prints-refusal z w = rw (ne-eqb (p .number) 0 z) (refusal-prints p w)
+
+  module _ (z : p .number ≡ 0) (front : List ℕ) (is-front : front ≡ take (p .length) out) (fits : p .length ≤ length out) (small : length out ≤ jobOutput) where
+    size : length front ≤ jobOutput
+    size = omega (arith, ap length is-front, length-take-le (p .length) out fits)
+
+    pub prints-body : hex ≡ true → Put before 0 (bodyText front) after r → length (bodyText front) ≡ 2 * length front + 6 → Prints (answerText hex p out) before after r
+    unfolding answerText
+    prints-body h w k =
+        let print : Prints (bodyText front) before after r = record { put = w; few = omega (arith, k, size) } in
+        rw (eq-eqb (p .number) 0 z, h) (rw is-front at print)
+
+    pub prints-text : hex ≡ false → Put before 0 front after r → Prints (answerText hex p out) before after r
+    unfolding answerText
+    prints-text h w =
+        let print : Prints front before after r = record { put = w; few = omega (arith, size) } in
+        rw (eq-eqb (p .number) 0 z, h) (rw is-front at print)
+
+-- an answer's text by its report
+pub report-print : (hex : Bool) (p q : Report) (out : List ℕ) {before after : List ℕ} {r : ℕ} → p ≡ q → Prints (answerText hex p out) before after r → Prints (answerText hex q out) before after r
+report-print hex p q out e w = rw e at w

@@ -1,32 +1,37 @@
 -- What is printed for a job, from its first line on. Assumes nothing.
 use mathlib.Core.Path.{_≡_, refl, ap, sym, _∙_}
 use mathlib.Core.Bool.{Bool, true, false}
-use mathlib.Core.List.{List, _++_}
+use mathlib.Core.List.{List, [], _++_}
 use Prim.Native.Nat.{ℕ, _+_, _<_, _≤_}
 use native.Mathlib.Nat.{zero-add}
 use native.Mathlib.Omega.{arith}
 use borrow.Author.Tests.{lt-ltb, le-ltb}
-use lib.ListN.{length, take, drop, replicate, length-replicate}
+use lib.ListN.{length, take, drop, replicate}
 use Rattle.lists.specs.Choice.{pick}
 use Rattle.lists.specs.Write.{Put}
 use Rattle.lists.proofs.Writes.{put-fits, kept-length}
-use Rattle.spec_answers.specs.Report.{zeros, written}
+use Rattle.answers.specs.Report.{zeros, written}
 use Rattle.spec_sheet.specs.Line.{Op}
 use Rattle.spec_sheet.specs.Sheet.{typeRows, infoRows, largest}
 use Rattle.spec_job.specs.Job.{JobInputs, JobRead, inputsAt, withBody, withText, readList, readAssemble}
 use Rattle.spec_job.specs.Job.InputsRead.{badInputs}
 use Rattle.spec_job.specs.Job.JobRead.{listJob, badLine}
 use Rattle.spec_job.proofs.JobLaws.{list-bad, list-body, assemble-bad, assemble-text}
-use Rattle.spec_job.specs.Printed.{refusedText, printedJob, printed}
+use Rattle.spec_job.specs.Printed.{refusedText, printedJob, printed, run}
 use Rattle.limits.specs.Limits.{jobLimit}
-use Rattle.job_read.specs.ReaderAnswers.{asked}
-use Rattle.job_read.specs.declared.reader.Asked.{Asked}
-use Rattle.job_read.specs.declared.reader.InputsRead.{InputsRead}
-use Rattle.job_read.proofs.AskedLaws.{readAs, read-as}
-use Rattle.job.specs.Run.{runText}
-use Rattle.job.specs.Prints.{Prints, printedMost}
+use Rattle.answers.specs.Refusals.{refusalReport}
+use Rattle.answers.specs.Outcome.{exceeds, Ended}
+use Rattle.answers.proofs.OutcomeLaws.{small-end, result-end}
+use Rattle.answers.specs.declared.refusal.Refusal.the-variants.{TooLarge}
+use Rattle.job.specs.ReaderAnswers.{asked}
+use Rattle.job.specs.declared.reader.Asked.{Asked}
+use Rattle.job.specs.declared.reader.InputsRead.{InputsRead}
+use Rattle.job.proofs.AskedLaws.{readAs, read-as}
+use Rattle.job.specs.Run.{runReport}
+use Rattle.job.specs.declared.run.RunAnswer.the-variants.{Done, Short}
+use Rattle.job.specs.Prints.{Prints}
 use Rattle.job.proofs.PrintLaws.{refusal-prints}
-use Rattle.job_read.proofs.ReadLaws.{InputsWas, inputs-held}
+use Rattle.job.proofs.ReadLaws.{InputsWas, inputs-held}
 
 -- inputs that were read, and what is read behind it
 module _ (job : List ℕ) (start : ℕ) {types ops : List (List ℕ)} {bytes ends : List ℕ} {read : InputsRead} (w : InputsWas (inputsAt job start 2) types ops bytes ends read) (h : length job ≤ 65536) where
@@ -56,42 +61,34 @@ pub inputs-off : (job : List ℕ) (start line : ℕ) (lists : Bool) → inputsAt
 inputs-off job start line true e = list-bad job start line e
 inputs-off job start line false e = assemble-bad job start line e
 
--- cleared once, a text holds zeros
-pub still-zeros : (before clean : List ℕ) → clean ≡ replicate (length before) 0 → clean ≡ replicate (length clean) 0
-still-zeros before clean e =
-    let size : length clean ≡ length before = rw (e, length-replicate) refl in
-    e ∙ ap (λ (n : ℕ). replicate n 0) (sym size)
-
--- the text holds p at its front, over zs
-pub record HoldsText (p zs after : List ℕ) (r : ℕ) : Type 0 where
-  pub length-is : r ≡ length p
-  pub text-is : after ≡ written p zs
-  pub fits : r ≤ length after
-
-prints-hold : (p zs after : List ℕ) (r : ℕ) → Prints p zs after r → printedMost ≤ length zs → HoldsText p zs after r
-prints-hold p zs after r w h =
-    let size : r ≡ length p = omega (arith, w .put .next, w .put .small, w .few) in
-    let inside : 0 + length p ≤ length zs = omega (arith, w .few) in
-    record {
-      length-is = size;
-      text-is = w .put .bytes ∙ (put-fits zs 0 p inside ∙ ap (λ (k : ℕ). p ++ drop k zs) (zero-add (length p)));
-      fits = omega (arith, kept-length (w .put), size, w .few);
-    }
-
--- a text with room for all that a job may print
-module _ (job before clean after : List ℕ) (r : ℕ) (room : printedMost ≤ length clean) (same : length clean ≡ length before) (z : clean ≡ zeros before) where
-  printed-holds : Prints (printed job) clean after r → HoldsText (runText job (length before)) (zeros before) after r
-  printed-holds w = rw (le-ltb (length before) printedMost (omega (arith, same))) (rw z at (prints-hold (printed job) clean after r w room))
-
-  -- a job that is too large, and one that is read by its first line
-  pub large-holds : jobLimit < length job → Put clean 0 (refusedText 18 0 0) after r → HoldsText (runText job (length before)) (zeros before) after r
+-- what is printed for a job
+module _ (job before after : List ℕ) (r : ℕ) where
+  pub large-prints : jobLimit < length job → Put before 0 (refusedText (refusalReport TooLarge)) after r → Prints (printed job) before after r
   unfolding printed
-  large-holds h w = printed-holds (rw (lt-ltb jobLimit (length job) h) (refusal-prints 18 0 0 w))
+  large-prints h w = rw (lt-ltb jobLimit (length job) h) (refusal-prints (refusalReport TooLarge) w)
 
-  pub job-holds : length job ≤ jobLimit → (a : Asked) → a ≡ asked job → Prints (printedJob job (readAs a job)) clean after r → HoldsText (runText job (length before)) (zeros before) after r
+  pub job-prints : length job ≤ jobLimit → (a : Asked) → a ≡ asked job → Prints (printedJob job (readAs a job)) before after r → Prints (printed job) before after r
   unfolding printed
-  job-holds h a q w = printed-holds (rw (le-ltb jobLimit (length job) h, read-as job, sym q) w)
+  job-prints h a q w = rw (le-ltb jobLimit (length job) h, read-as job, sym q) w
 
--- a text that is too short
-pub job-none : (job before after : List ℕ) → length before < printedMost → after ≡ zeros before → HoldsText (runText job (length before)) (zeros before) after 0
-job-none job before after h e = rw (lt-ltb (length before) printedMost h) (record { length-is = refl; text-is = e; fits = omega arith })
+-- how the program's function ends
+module _ (job before now : List ℕ) (k : ℕ) (w : Prints (printed job) before now k) where
+  size : k ≡ length (printed job)
+  size = omega (arith, w .put .next, w .few)
+
+  nothing-needed : exceeds [] [] ≡ false
+  unfolding exceeds
+  nothing-needed = refl
+
+  pub run-short : length now < k → (after : List ℕ) → after ≡ zeros now → Ended (run job) before [] after (runReport Short)
+  unfolding runReport
+  run-short h after z =
+      small-end (length (printed job)) (printed job) [] before [] (omega (arith, size, kept-length (w .put))) after (z ∙ ap (λ (n : ℕ). replicate n 0) (kept-length (w .put)))
+
+  pub run-done : k ≤ length now → Ended (run job) before [] now (runReport (Done k))
+  unfolding runReport
+  run-done h =
+      let fits : 0 + length (printed job) ≤ length before = omega (arith, size, kept-length (w .put)) in
+      let inside : length (printed job) ≤ length before = omega arith in
+      let bytes : now ≡ written (printed job) before = w .put .bytes ∙ put-fits before 0 (printed job) fits ∙ ap (λ (n : ℕ). printed job ++ drop n before) (zero-add (length (printed job))) in
+      rw size (result-end (length (printed job)) (printed job) [] before [] inside nothing-needed now bytes)

@@ -1,11 +1,9 @@
--- What is left in the lent text for a job. Assumes nothing.
-use mathlib.Core.List.{List, []}
-use Prim.Native.Nat.{ℕ}
-use lib.Dec.{ltb}
-use Rattle.lists.specs.Choice.{pick}
-use Rattle.spec_job.specs.Printed.{printed}
-use Rattle.job.specs.Prints.{printedMost}
+-- What the program's function answers. Assumes nothing.
+use Rattle.answers.specs.Report.{Report, shortage, success}
+use Rattle.job.specs.declared.run.RunAnswer.{RunAnswer}
+use Rattle.job.specs.declared.run.RunAnswer.the-variants.{Done, Short}
 
--- what is printed for a job where `room` bytes are lent; with fewer than a job may need nothing is printed
-abbrev pub runText : List ℕ → ℕ → List ℕ
-runText job room = pick (ltb room printedMost) [] (printed job)
+-- document 01's number and length of each answer: what is printed, or 19 where the text has no room for it
+unfoldable pub runReport : RunAnswer → Report
+runReport (Done n) = success n
+runReport Short = shortage

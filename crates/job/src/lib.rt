@@ -1,5 +1,8 @@
 // What the desk program prints for a job.
-pub mod assemble_job; // a job that assembles a text
-pub mod list_job; // a job that lists a body
-pub mod printed; // a refusal and a body as they are printed
+pub(crate) mod assemble_job; // a job that assembles a text
+pub(crate) mod hex; // bytes in hex, read
+pub(crate) mod list_job; // a job that lists a body
+pub(crate) mod printed; // a refusal, a body and an answer as they are printed
+pub(crate) mod reader; // the parts of a job in order: which it is, inputs, body, text
 pub mod run; // a job's bytes in, the printed bytes out
+pub(crate) mod table; // the strings, read

@@ -1,19 +1,21 @@
-// A job that lists a body: the listing stands where it is printed.
+// A job that lists a body.
 ghost use mathlib.Core.Path.{_≡_};
-ghost use mathlib.Core.List.{List};
+ghost use mathlib.Core.List.{List, [], _∷_};
 ghost use Prim.Native.Nat.{ℕ, _≤_};
-ghost use lib.ListN.{length, replicate};
-ghost use Rattle.limits.specs.Limits.{jobLimit, bodyLimit, jobOutput};
+ghost use lib.ListN.{length};
+ghost use Rattle.limits.specs.Limits.{jobLimit, bodyLimit, jobLabels};
+ghost use Rattle.answers.specs.Outcome.{Ended};
 ghost use Rattle.spec_sheet.specs.Line.{Op};
 ghost use Rattle.spec_sheet.specs.Sheet.{typeRows, infoRows, largest};
 ghost use Rattle.spec_job.specs.Job.{withBody};
 ghost use Rattle.spec_job.specs.Job.JobRead.{listJob};
 ghost use Rattle.spec_job.specs.Printed.{listUnder, printedOf, printedJob};
-ghost use Rattle.listing.specs.Answers.{listReport, Ended};
-ghost use Rattle.job.specs.Prints.{Prints, Told};
+ghost use Rattle.listing.specs.Answers.{listReport};
+ghost use Rattle.job.specs.Prints.{Prints};
 use crate::printed::refused;
-use job_read::reader::BodyAnswer;
-use job_read::reader::InputsRead;
+use crate::reader::BodyAnswer;
+use crate::reader::InputsRead;
+use answers::refusal::Refusal;
 use listing::answer::ListAnswer;
 use listing::options::Options;
 use operation::inputs::Inputs;
@@ -37,44 +39,38 @@ fn list_inputs(
     out: &mut [u8],
 ) -> ListAnswer
     requires { ⌜ length (now body) ≤ bodyLimit ⌝ }
-    ensures { λ r. ⌜ ((os : List Op) → now (types .entry) ≡ typeRows os → now (ops .entry) ≡ infoRows os → last ≡ largest os → Ended (listUnder (now (job .entry)) (record { opcodes = os; bytes = now (bytes .entry); ends = now (ends .entry) }) (now (body .entry))) (now (out .entry)) (now (out .exit)) r) ⌝ }
+    ensures { λ r. ⌜ ((os : List Op) → now (types .entry) ≡ typeRows os → now (ops .entry) ≡ infoRows os → last ≡ largest os → Ended (listUnder (now (job .entry)) (record { opcodes = os; bytes = now (bytes .entry); ends = now (ends .entry) }) (now (body .entry))) (now (out .entry)) (jobLabels ∷ []) (now (out .exit)) (listReport r)) ⌝ }
+    ensures { λ r. ⌜ listReport r .length ≤ length (now (out .entry)) ⌝ }
 {
     let i = operation::inputs::table_inputs(last, bytes, ends);
-    let Inputs::Ready(opcode) = i else {
-        clear(out);
-        return listing::list::refused_inputs(i);
-    };
-    let options = Options {
-        show_offsets: true,
-        show_labels: true,
-        resolve_strings: true,
-    };
-    listing::list::list_under(
-        options,
-        job,
-        types,
-        ops,
-        opcode,
-        bytes,
-        ends,
-        body,
-        limits::JOB_LABELS,
-        out,
-    )
-}
-
-// The length of a listing, which stands in `text` already, or the line that a refusal prints.
-fn put_listed(a: ListAnswer, text: &mut [u8]) -> usize
-    ensures { λ r. ⌜ Told (listReport a) (now (text .entry)) (now (text .exit)) r ⌝ }
-{
-    let n = listing::answer::list_numbers(a);
-    if n.number == 0 {
-        return n.length as usize;
+    match i {
+        Inputs::Ready(opcode) => {
+            let options = Options {
+                show_offsets: true,
+                show_labels: true,
+                resolve_strings: true,
+            };
+            listing::list::list_under(
+                options,
+                job,
+                types,
+                ops,
+                opcode,
+                bytes,
+                ends,
+                body,
+                limits::JOB_LABELS,
+                out,
+            )
+        }
+        Inputs::Refused(x) => {
+            clear(out);
+            ListAnswer::Refused(x)
+        }
     }
-    crate::printed::put_refused(text, 0, n.number, n.place, n.operand)
 }
 
-// Prints the listing of a body. The text's front is the output that the program lends.
+// Prints the listing of a body.
 fn print_listing(
     job: &[u8],
     types: &[[u8; 8]; 256],
@@ -85,24 +81,16 @@ fn print_listing(
     body: &[u8],
     text: &mut [u8],
 ) -> usize
-    requires { ⌜ (length (now body) ≤ bodyLimit) × (jobOutput ≤ length (now text)) × (now text ≡ replicate (length (now text)) 0) ⌝ }
+    requires { ⌜ length (now body) ≤ bodyLimit ⌝ }
     ensures { λ r. ⌜ ((os : List Op) → now (types .entry) ≡ typeRows os → now (ops .entry) ≡ infoRows os → last ≡ largest os → Prints (printedOf (λ (t : List ℕ). t) (listUnder (now (job .entry)) (record { opcodes = os; bytes = now (bytes .entry); ends = now (ends .entry) }) (now (body .entry)))) (now (text .entry)) (now (text .exit)) r) ⌝ }
 {
-    let a = list_inputs(
-        job,
-        types,
-        ops,
-        last,
-        bytes,
-        ends,
-        body,
-        &mut text[0..limits::JOB_OUTPUT],
-    );
-    put_listed(a, text)
+    let mut out = crate::printed::output_space();
+    let a = list_inputs(job, types, ops, last, bytes, ends, body, &mut out);
+    crate::printed::put_answer(false, listing::answer::list_numbers(a), &out, text)
 }
 
 // Prints the listing of the job's body, which stands behind the inputs that were read.
-pub fn print_list(
+pub(crate) fn print_list(
     job: &[u8],
     read: InputsRead,
     types: &[[u8; 8]; 256],
@@ -111,11 +99,11 @@ pub fn print_list(
     ends: &[u32],
     text: &mut [u8],
 ) -> usize
-    requires { ⌜ (length (now job) ≤ jobLimit) × (read .line ≤ jobLimit) × (jobOutput ≤ length (now text)) × (now text ≡ replicate (length (now text)) 0) ⌝ }
+    requires { ⌜ (length (now job) ≤ jobLimit) × (read .line ≤ jobLimit) ⌝ }
     ensures { λ r. ⌜ ((os : List Op) → now (types .entry) ≡ typeRows os → now (ops .entry) ≡ infoRows os → read .largest ≡ largest os → Prints (printedJob (now (job .entry)) (withBody (now (job .entry)) (read .end) (read .line) (listJob (record { opcodes = os; bytes = now (bytes .entry); ends = now (ends .entry) })))) (now (text .entry)) (now (text .exit)) r) ⌝ }
 {
     let mut body = body_space();
-    let b = job_read::reader::body_at(job, read.end, read.line, &mut body);
+    let b = crate::reader::body_at(job, read.end, read.line, &mut body);
     match b {
         BodyAnswer::Read(n) => {
             print_listing(
@@ -129,6 +117,6 @@ pub fn print_list(
                 text,
             )
         }
-        BodyAnswer::BadLine(bad) => refused(text, 1, bad),
+        BodyAnswer::BadLine(bad) => refused(text, Refusal::Malformed(bad)),
     }
 }

@@ -1,17 +1,19 @@
 // A job's bytes in, the printed bytes out: all that the program does but reading and writing.
-ghost use mathlib.Core.Path.{_≡_};
+ghost use mathlib.Core.List.{[]};
 ghost use Prim.Native.Nat.{_≤_};
-ghost use lib.ListN.{length, replicate};
-ghost use Rattle.limits.specs.Limits.{jobLimit, jobOutput};
+ghost use lib.ListN.{length};
+ghost use Rattle.limits.specs.Limits.{jobLimit};
 ghost use Rattle.lists.specs.Choice.{pick};
-ghost use Rattle.spec_answers.specs.Report.{written, zeros};
+ghost use Rattle.answers.specs.Outcome.{Ended};
 ghost use Rattle.spec_job.specs.Job.{readList, readAssemble};
-ghost use Rattle.spec_job.specs.Printed.{printedJob};
-ghost use Rattle.job.specs.Run.{runText};
+ghost use Rattle.spec_job.specs.Printed as operation;
+ghost use Rattle.spec_job.specs.Printed.{printedJob, printed};
+ghost use Rattle.job.specs.Run.{runReport};
 ghost use Rattle.job.specs.Prints.{Prints};
 use crate::printed::refused;
-use job_read::reader::Asked;
-use job_read::reader::InputsAnswer;
+use crate::reader::Asked;
+use crate::reader::InputsAnswer;
+use answers::refusal::Refusal;
 use slices::write::clear;
 
 // Space for a job's strings: two digits make a byte, so that half of the job's limit is enough. No contract, since the
@@ -26,14 +28,14 @@ fn end_space() -> [u32; limits::JOB_STRING_LIMIT] {
 
 // Prints a job whose inputs stand at `start`, behind the line that says what it asks for: a listing, or else a body.
 fn print_job(lists: bool, job: &[u8], start: usize, text: &mut [u8]) -> usize
-    requires { ⌜ (length (now job) ≤ jobLimit) × (jobOutput ≤ length (now text)) × (now text ≡ replicate (length (now text)) 0) ⌝ }
+    requires { ⌜ length (now job) ≤ jobLimit ⌝ }
     ensures { λ r. ⌜ Prints (printedJob (now (job .entry)) (pick lists (readList (now (job .entry)) start) (readAssemble (now (job .entry)) start))) (now (text .entry)) (now (text .exit)) r ⌝ }
 {
     let mut types = [[0u8; 8]; 256];
     let mut ops = [[0usize; 4]; 256];
     let mut bytes = string_space();
     let mut ends = end_space();
-    let e = job_read::reader::inputs_at(job, start, 2, &mut types, &mut ops, &mut bytes, &mut ends);
+    let e = crate::reader::inputs_at(job, start, 2, &mut types, &mut ops, &mut bytes, &mut ends);
     match e {
         InputsAnswer::Read(read) => {
             let size = read.size;
@@ -54,28 +56,39 @@ fn print_job(lists: bool, job: &[u8], start: usize, text: &mut [u8]) -> usize
                 )
             }
         }
-        InputsAnswer::BadLine(bad) => refused(text, 1, bad),
+        InputsAnswer::BadLine(bad) => refused(text, Refusal::Malformed(bad)),
     }
 }
 
-// Writes what the program prints for a job to the front of `text`, over zeros, and answers its length. A `text` that has no
-// room for all that a job may print gets nothing.
-pub fn run(job: &[u8], text: &mut [u8]) -> usize
-    ensures { λ r. ⌜ r ≡ length (runText (now (job .entry)) (length (now (text .entry)))) ⌝ }
-    ensures { λ _. ⌜ now (text .exit) ≡ written (runText (now (job .entry)) (length (now (text .entry)))) (zeros (now (text .entry))) ⌝ }
-    ensures { λ r. ⌜ r ≤ length (now (text .exit)) ⌝ }
+// Prints a job to the front of `text`, as much as fits, and counts all of it.
+fn print(job: &[u8], text: &mut [u8]) -> usize
+    ensures { λ r. ⌜ Prints (printed (now (job .entry))) (now (text .entry)) (now (text .exit)) r ⌝ }
 {
-    clear(text);
-    if text.len() < 131078 {
-        return 0;
-    }
     if limits::JOB_LIMIT < job.len() {
-        return refused(text, 18, 0);
+        return refused(text, Refusal::TooLarge);
     }
-    let w = job_read::reader::which_job(job);
+    let w = crate::reader::which_job(job);
     match w {
         Asked::List => print_job(true, job, 9, text),
         Asked::Assemble => print_job(false, job, 13, text),
-        Asked::Other => refused(text, 1, 1),
+        Asked::Other => refused(text, Refusal::Malformed(1)),
     }
+}
+
+// What the program's function answers. The definition runReport gives each case its number and length.
+pub enum RunAnswer {
+    Done(usize),
+    Short,
+}
+
+// Writes what the program prints for a job to the front of `text`.
+pub fn run(job: &[u8], text: &mut [u8]) -> RunAnswer
+    ensures { λ r. ⌜ Ended (operation.run (now (job .entry))) (now (text .entry)) [] (now (text .exit)) (runReport r) ⌝ }
+{
+    let k = print(job, text);
+    if text.len() < k {
+        clear(text);
+        return RunAnswer::Short;
+    }
+    RunAnswer::Done(k)
 }

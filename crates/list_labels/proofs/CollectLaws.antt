@@ -5,15 +5,18 @@ use Prim.Native.Nat.{ℕ, _+_, _-_, _≤_}
 use native.Mathlib.Nat.{sub-zero}
 use native.Mathlib.Omega.{arith}
 use lib.ListN.{length, take, replicate, length-take}
-use Rattle.spec_body.specs.Decode.{Decoded}
-use Rattle.spec_body.specs.Decode.Decoded.{decoded, beyond, cut}
+use Rattle.spec_body.specs.Decode.{Decoded, decodeBody}
+use Rattle.spec_body.specs.Decode.Decoded.{decoded, notDecoded}
+use Rattle.answers.specs.declared.refusal.Refusal.{Refusal}
 use Rattle.spec_inputs.specs.Context.{Context, nameOf, isJump}
 use Rattle.spec_listing.specs.Labels.{labelOffsets, labelsOf, different}
 use Rattle.list_labels.specs.Parts.{below, above}
 use Rattle.list_labels.proofs.DifferentLaws.{different-most}
 use Rattle.list_labels.proofs.PartLaws.{different-parts}
 use Rattle.list_labels.specs.Notes.{Notes}
-use Rattle.list_labels.specs.Collecting.{tables, unnoted, notesAfter, walkOf, collectedOf, Noted, FarCounted, AllFlagged, walkedCount}
+use Rattle.list_labels.specs.Readable.{readable}
+use Rattle.list_labels.proofs.ReadableLaws.{all-readable}
+use Rattle.list_labels.specs.Collecting.{tables, unnoted, notesAfter, walkOf, collectedOf, Noted, FarCounted, Flagged, walkedCount}
 use Rattle.list_labels.specs.declared.collect.Walked.{Walked}
 use Rattle.list_labels.specs.declared.collect.Walked.the-variants as walked
 use Rattle.list_labels.specs.declared.collect.Collected.the-variants as collected
@@ -46,37 +49,22 @@ module _ (e : Context) (d : Decoded) (n : Notes) (r : Walked) (w : r ≡ walkOf 
       where
         go : (d′ : Decoded) → d ≡ d′ → P
         go (decoded rs) p = f rs p
-        go (beyond at) p = absurd (let z : _≡_ {A = ℕ} 0 1 = cc (met ∙ ap (walkOf e n) p) in omega arith)
-        go (cut at) p = absurd (let z : _≡_ {A = ℕ} 0 1 = cc (met ∙ ap (walkOf e n) p) in omega arith)
+        go (notDecoded x) p = absurd (let z : _≡_ {A = ℕ} 0 1 = cc (met ∙ ap (walkOf e n) p) in omega arith)
 
-  -- it met an opcode beyond the sheet's, or a cut instruction
-  module _ (at : ℕ) where
-    pub refused-beyond : r ≡ walked.Beyond at → collected.Beyond at ≡ collectedOf e d
+  -- it was refused
+  module _ (x : Refusal) (v : r ≡ walked.Refused x) where
+    pub was-refused : collected.Refused x ≡ collectedOf e d
     unfolding walkOf collectedOf
-    refused-beyond v = go d (sym v ∙ w)
+    was-refused = go d (sym v ∙ w)
       where
-        go : (d′ : Decoded) → walked.Beyond at ≡ walkOf e n d′ → collected.Beyond at ≡ collectedOf e d′
+        go : (d′ : Decoded) → walked.Refused x ≡ walkOf e n d′ → collected.Refused x ≡ collectedOf e d′
         go (decoded rs) q = absurd (let z : _≡_ {A = ℕ} 0 1 = cc q in omega arith)
-        go (beyond b) q = let p : at ≡ b = cc q in rw p
-        go (cut b) q = absurd (let z : _≡_ {A = ℕ} 0 1 = cc q in omega arith)
+        go (notDecoded y) q = let p : x ≡ y = cc q in rw p
 
-    pub refused-cut : r ≡ walked.Cut at → collected.Cut at ≡ collectedOf e d
-    unfolding walkOf collectedOf
-    refused-cut v = go d (sym v ∙ w)
-      where
-        go : (d′ : Decoded) → walked.Cut at ≡ walkOf e n d′ → collected.Cut at ≡ collectedOf e d′
-        go (decoded rs) q = absurd (let z : _≡_ {A = ℕ} 0 1 = cc q in omega arith)
-        go (beyond b) q = absurd (let z : _≡_ {A = ℕ} 0 1 = cc q in omega arith)
-        go (cut b) q = let p : at ≡ b = cc q in rw p
-
-    -- then the body is not decoded
-    pub beyond-not : {P : Type 0} → r ≡ walked.Beyond at → (rs : List (List ℕ)) → d ≡ decoded rs → P
+    -- so the body is not decoded
+    pub not-decoded : {P : Type 0} → (rs : List (List ℕ)) → d ≡ decoded rs → P
     unfolding walkOf
-    beyond-not v rs p = absurd (let z : _≡_ {A = ℕ} 0 1 = cc (sym v ∙ (w ∙ ap (walkOf e n) p)) in omega arith)
-
-    pub cut-not : {P : Type 0} → r ≡ walked.Cut at → (rs : List (List ℕ)) → d ≡ decoded rs → P
-    unfolding walkOf
-    cut-not v rs p = absurd (let z : _≡_ {A = ℕ} 0 1 = cc (sym v ∙ (w ∙ ap (walkOf e n) p)) in omega arith)
+    not-decoded rs p = absurd (let z : _≡_ {A = ℕ} 0 1 = cc (sym v ∙ (w ∙ ap (walkOf e n) p)) in omega arith)
 
 empty : (k : List ℕ) → length k ≡ 0 → k ≡ []
 empty [] h = refl
@@ -86,53 +74,61 @@ pub few-counted : (c far m : ℕ) (stored : List ℕ) → c ≡ different (take 
 few-counted c far m stored e h =
     omega (arith, e, h, sub-zero far, different-most (take (far - 0) stored), length-take (far - 0) stored)
 
+-- from flags that are all 0 a walk flags all near offsets
+pub all-flagged : (e : Context) (rs : List (List ℕ)) (flags stored flags′ stored′ : List ℕ) → Noted e rs (unnoted flags stored) flags′ stored′
+    → flags ≡ replicate (length flags) 0 → Flagged (labelOffsets e rs) flags′
+all-flagged e rs flags stored flags′ stored′ l z = rw (l .0) (near-all flags stored (labelOffsets e rs) z .marked)
+
 -- a walk that met offsets, and what it left
-module _ (e : Context) (d : Decoded) (flags stored flags′ stored′ : List ℕ) (r : Walked) (w : r ≡ walkOf e (unnoted flags stored) d)
-    (near far : ℕ) (v : r ≡ walked.Met near far) (l : Noted e d (unnoted flags stored) flags′ stored′) where
+module _ (e : Context) (last : ℕ) (s flags stored flags′ stored′ : List ℕ) (r : Walked) (w : r ≡ walkOf e (unnoted flags stored) (decodeBody (e .types) last s))
+    (near far : ℕ) (v : r ≡ walked.Met near far) (l : Noted e (readable (e .types) last s) (unnoted flags stored) flags′ stored′) where
+  abbrev body : Decoded
+  body = decodeBody (e .types) last s
+
   abbrev start : Notes
   start = unnoted flags stored
 
+  left-by : (rs : List (List ℕ)) → body ≡ decoded rs → Noted e rs start flags′ stored′
+  left-by rs p = rw (sym (all-readable (e .types) last s rs p)) l
+
   -- the far offsets it stored are counted
-  pub far-counted : (c : ℕ) → far ≤ length stored → length stored′ ≡ length stored → c ≡ different (take (far - 0) stored′) → FarCounted e d flags flags′ c
+  pub far-counted : (c : ℕ) → far ≤ length stored → length stored′ ≡ length stored → c ≡ different (take (far - 0) stored′) → FarCounted e body flags flags′ c
   far-counted c f k q rs p =
       let a = far-all flags stored (labelOffsets e rs) in
-      let x = met-far e d start r w near far v rs p in
-      let s = l rs p .1 in
+      let x = met-far e body start r w near far v rs p in
+      let s = left-by rs p .1 in
       let t : take (notesAfter e start rs .far) (notesAfter e start rs .stored) ≡ above (length flags) (labelOffsets e rs) =
       a .kept (omega (arith, x, f, k, ap length s)) in
-      (q ∙ rw (sub-zero far, x, s) (ap different t), λ m. rw (l rs p .0) (marked-again flags stored (labelOffsets e rs) m))
+      (q ∙ rw (sub-zero far, x, s) (ap different t), λ m. rw (left-by rs p .0) (marked-again flags stored (labelOffsets e rs) m))
 
   -- from flags that are all 0
   module _ (z : flags ≡ replicate (length flags) 0) where
-    -- it flags all near offsets
-    pub first-marked : AllFlagged e d flags′
-    first-marked rs p = rw (l rs p .0) (near-all flags stored (labelOffsets e rs) z .marked)
+    -- it counts the near offsets
+    near-count : (rs : List (List ℕ)) → body ≡ decoded rs → near ≡ different (below (length flags) (labelOffsets e rs))
+    near-count rs p = met-near e body start r w near far v rs p ∙ near-all flags stored (labelOffsets e rs) z .count
 
-    -- and counts them
-    near-count : (rs : List (List ℕ)) → d ≡ decoded rs → near ≡ different (below (length flags) (labelOffsets e rs))
-    near-count rs p = met-near e d start r w near far v rs p ∙ near-all flags stored (labelOffsets e rs) z .count
+    none-far : far ≡ 0 → (rs : List (List ℕ)) → body ≡ decoded rs → above (length flags) (labelOffsets e rs) ≡ []
+    none-far h rs p = empty _ (sym (far-all flags stored (labelOffsets e rs) .count) ∙ (sym (met-far e body start r w near far v rs p) ∙ h))
 
-    none-far : far ≡ 0 → (rs : List (List ℕ)) → d ≡ decoded rs → above (length flags) (labelOffsets e rs) ≡ []
-    none-far h rs p = empty _ (sym (far-all flags stored (labelOffsets e rs) .count) ∙ (sym (met-far e d start r w near far v rs p) ∙ h))
-
-    entries : (k : ℕ) → ((rs : List (List ℕ)) → d ≡ decoded rs → k ≡ different (labelOffsets e rs)) → collected.Entries k ≡ collectedOf e d
+    entries : (k : ℕ) → ((rs : List (List ℕ)) → body ≡ decoded rs → k ≡ different (labelOffsets e rs)) → collected.Entries k ≡ collectedOf e body
     unfolding collectedOf
-    entries k f = met-decoded e d start r w near far v (λ rs p. rw (f rs p, p))
+    entries k f = met-decoded e body start r w near far v (λ rs p. rw (f rs p, p))
 
     -- without far offsets that is all
-    pub near-only : far ≡ 0 → collected.Entries near ≡ collectedOf e d
+    pub near-only : far ≡ 0 → collected.Entries near ≡ collectedOf e body
     unfolding different
     near-only h = entries near λ rs p.
         near-count rs p ∙ (omega (arith, different-parts (length flags) (labelOffsets e rs), ap different (none-far h rs p)))
 
     -- else the far ones are counted by themselves
-    module _ (flags″ : List ℕ) (more : ℕ) (s : length flags′ ≡ length flags) (f : FarCounted e d flags′ flags″ more) where
-      pub with-far : collected.Entries (near + more) ≡ collectedOf e d
+    module _ (flags″ : List ℕ) (more : ℕ) (k : length flags′ ≡ length flags) (f : FarCounted e body flags′ flags″ more) where
+      pub with-far : collected.Entries (near + more) ≡ collectedOf e body
       with-far = entries (near + more) λ rs p.
-          rw (near-count rs p, f rs p .0, s) (different-parts (length flags) (labelOffsets e rs))
+          rw (near-count rs p, f rs p .0, k) (different-parts (length flags) (labelOffsets e rs))
 
-      pub still-marked : AllFlagged e d flags″
-      still-marked rs p = f rs p .1 (first-marked rs p)
+      pub still-flagged : Flagged (labelOffsets e (readable (e .types) last s)) flags″
+      still-flagged = met-decoded e body start r w near far v λ rs p.
+          rw (all-readable (e .types) last s rs p) (f rs p .1 (all-flagged e rs flags stored flags′ stored′ (left-by rs p) z))
 
 -- labels depend on no string: any context with these tables has the same
 pub same-labels : (e : Context) (rs : List (List ℕ)) → labelOffsets e rs ≡ labelOffsets (tables (e .sheet) (e .types) (e .infos)) rs

@@ -1,4 +1,5 @@
 pub mod JumpLaws
+pub mod ReadableLaws
 pub mod WalkLoop
 pub mod FlagLaws
 pub mod CollectLaws

@@ -5,7 +5,7 @@ use Prim.Native.Nat.{ℕ, _+_, _<_}
 use lib.ListN.{length, getD}
 use Rattle.lists.specs.Choice.{pick}
 use Rattle.spec_body.specs.Decode.{Decoded}
-use Rattle.spec_body.specs.Decode.Decoded.{decoded, beyond, cut}
+use Rattle.spec_body.specs.Decode.Decoded.{decoded, notDecoded}
 use Rattle.spec_inputs.specs.Context.{Context, contextFrom}
 use Rattle.spec_listing.specs.Labels.{labelOffsets, among, different}
 use Rattle.list_labels.specs.Parts.{above}
@@ -27,39 +27,31 @@ unnoted flags stored = record { flags = flags; near = 0; stored = stored; far = 
 abbrev pub notesAfter : Context → Notes → List (List ℕ) → Notes
 notesAfter e n rs = noteAll n (labelOffsets e rs)
 
--- a walk from given notes: how many near offsets it flagged and how many far ones it met, or where decoding refuses
+-- a walk from given notes: how many near offsets it flagged and how many far ones it met, or why decoding refuses
 unfoldable pub walkOf : Context → Notes → Decoded → Walked
 walkOf e n (decoded rs) = walked.Met (notesAfter e n rs .near) (notesAfter e n rs .far)
-walkOf e n (beyond at) = walked.Beyond at
-walkOf e n (cut at) = walked.Cut at
+walkOf e n (notDecoded x) = walked.Refused x
 
 -- how many offsets a walk counted
 unfoldable pub walkedCount : Walked → ℕ
 walkedCount (walked.Met near far) = near + far
-walkedCount (walked.Beyond at) = 0
-walkedCount (walked.Cut at) = 0
+walkedCount (walked.Refused x) = 0
 
--- "each different offset of collect_label_offsets", or where decoding refuses
+-- "each different offset of collect_label_offsets", or why decoding refuses
 unfoldable pub collectedOf : Context → Decoded → Collected
 collectedOf e (decoded rs) = collected.Entries (different (labelOffsets e rs))
-collectedOf e (beyond at) = collected.Beyond at
-collectedOf e (cut at) = collected.Cut at
+collectedOf e (notDecoded x) = collected.Refused x
 
 -- a flag is 1 exactly where its offset is a label
 abbrev pub Flagged : List ℕ → List ℕ → Type 0
 Flagged labels flags = (i : ℕ) → i < length flags → getD flags i 0 ≡ pick (among i labels) 1 0
 
--- what a walk leaves of flags and room, where the body is decoded
-abbrev pub Noted : Context → Decoded → Notes → List ℕ → List ℕ → Type 0
-Noted e d n flags stored =
-    (rs : List (List ℕ)) → d ≡ decoded rs → (flags ≡ notesAfter e n rs .flags) × (stored ≡ notesAfter e n rs .stored)
+-- what a walk over these instructions leaves of flags and room
+abbrev pub Noted : Context → List (List ℕ) → Notes → List ℕ → List ℕ → Type 0
+Noted e rs n flags stored = (flags ≡ notesAfter e n rs .flags) × (stored ≡ notesAfter e n rs .stored)
 
 -- the different far offsets where the body is decoded; flags that were set for its labels stay
 abbrev pub FarCounted : Context → Decoded → List ℕ → List ℕ → ℕ → Type 0
 FarCounted e d flags flags′ far =
     (rs : List (List ℕ)) → d ≡ decoded rs
     → (far ≡ different (above (length flags) (labelOffsets e rs))) × (Flagged (labelOffsets e rs) flags → Flagged (labelOffsets e rs) flags′)
-
--- the flags where the body is decoded
-abbrev pub AllFlagged : Context → Decoded → List ℕ → Type 0
-AllFlagged e d flags = (rs : List (List ℕ)) → d ≡ decoded rs → Flagged (labelOffsets e rs) flags

@@ -1,3 +1,4 @@
+pub mod Readable
 pub mod Collecting
 pub mod Notes
 pub mod InstructionNotes

@@ -4,14 +4,16 @@ ghost use Prim.Native.Nat.{_≤_};
 ghost use lib.ListN.{length, replicate};
 ghost use Rattle.limits.specs.Limits.{bodyLimit};
 ghost use Rattle.spec_body.specs.Decode.{decodeBody};
-ghost use Rattle.list_labels.specs.Collecting.{tables, unnoted, walkOf, Noted, FarCounted, collectedOf, AllFlagged, walkedCount};
+ghost use Rattle.spec_listing.specs.Labels.{labelOffsets};
+ghost use Rattle.list_labels.specs.Readable.{readable};
+ghost use Rattle.list_labels.specs.Collecting.{tables, unnoted, walkOf, walkedCount, Noted, FarCounted, collectedOf, Flagged};
 use crate::offset_set::Counts;
+use answers::refusal::Refusal;
 
-// How many near offsets a walk flagged and how many far ones it met, or the instruction where decoding refuses.
-pub enum Walked {
+// How many near offsets a walk flagged and how many far ones it met; or 13 or 14 of decoding.
+enum Walked {
     Met(usize, usize),
-    Beyond(usize),
-    Cut(usize),
+    Refused(Refusal),
 }
 
 // Walks over a body and notes the label offsets of each instruction.
@@ -26,19 +28,19 @@ fn walk(
 ) -> Walked
     requires { ⌜ length (now s) ≤ bodyLimit ⌝ }
     ensures { λ r. ⌜ (r ≡ walkOf (tables (now (sheet .entry)) (now (types .entry)) (now (ops .entry))) (unnoted (now (flags .entry)) (now (stored .entry))) (decodeBody (now (types .entry)) last (now (s .entry)))) × (walkedCount r ≤ length (now (s .entry))) ⌝ }
-    ensures { λ _. ⌜ Noted (tables (now (sheet .entry)) (now (types .entry)) (now (ops .entry))) (decodeBody (now (types .entry)) last (now (s .entry))) (unnoted (now (flags .entry)) (now (stored .entry))) (now (flags .exit)) (now (stored .exit)) ⌝ }
+    ensures { λ _. ⌜ Noted (tables (now (sheet .entry)) (now (types .entry)) (now (ops .entry))) (readable (now (types .entry)) last (now (s .entry))) (unnoted (now (flags .entry)) (now (stored .entry))) (now (flags .exit)) (now (stored .exit)) ⌝ }
 {
     let mut counts = Counts { near: 0, far: 0 };
     let mut at: usize = 0;
     while at < s.len() {
         let op = s[at] as usize;
         if last < op {
-            return Walked::Beyond(at);
+            return Walked::Refused(Refusal::Beyond(at));
         }
         let row = types[op];
         let size = sheet::row::instruction_length(row);
         if s.len() - at < size {
-            return Walked::Cut(at);
+            return Walked::Refused(Refusal::Cut(at));
         }
         let info = ops[op];
         counts = crate::instruction_labels::note_instruction(
@@ -75,8 +77,7 @@ fn count_far(
     let w = walk(sheet, types, ops, last, s, flags, stored);
     match w {
         Walked::Met(_, n) => crate::distinct::count_different(&mut stored[0..n], spare),
-        Walked::Beyond(_) => 0,
-        Walked::Cut(_) => 0,
+        Walked::Refused(_) => 0,
     }
 }
 
@@ -98,14 +99,14 @@ fn count_far_anew(
     count_far(sheet, types, ops, last, s, flags, &mut stored, &mut spare)
 }
 
-// How many different label offsets a body has, or the instruction where decoding refuses.
+// How many different label offsets a body has; or 13 or 14 of decoding.
 pub enum Collected {
     Entries(usize),
-    Beyond(usize),
-    Cut(usize),
+    Refused(Refusal),
 }
 
-// Flags each label offset that lies below their number, and counts the different ones.
+// Flags each label offset that lies below their number, and counts the different ones. A body that is refused has flags for
+// the instructions in front of the one that is at fault.
 pub fn collect_label_offsets(
     sheet: &[u8],
     types: &[[u8; 8]; 256],
@@ -116,7 +117,7 @@ pub fn collect_label_offsets(
 ) -> Collected
     requires { ⌜ (length (now s) ≤ bodyLimit) × (now flags ≡ replicate (length (now flags)) 0) ⌝ }
     ensures { λ r. ⌜ r ≡ collectedOf (tables (now (sheet .entry)) (now (types .entry)) (now (ops .entry))) (decodeBody (now (types .entry)) last (now (s .entry))) ⌝ }
-    ensures { λ _. ⌜ AllFlagged (tables (now (sheet .entry)) (now (types .entry)) (now (ops .entry))) (decodeBody (now (types .entry)) last (now (s .entry))) (now (flags .exit)) ⌝ }
+    ensures { λ _. ⌜ Flagged (labelOffsets (tables (now (sheet .entry)) (now (types .entry)) (now (ops .entry))) (readable (now (types .entry)) last (now (s .entry)))) (now (flags .exit)) ⌝ }
 {
     // Far offsets are only counted here, so what this holds is never looked at.
     let mut none = [0u32; 1];
@@ -128,7 +129,6 @@ pub fn collect_label_offsets(
             }
             Collected::Entries(near + count_far_anew(sheet, types, ops, last, s, flags))
         }
-        Walked::Beyond(at) => Collected::Beyond(at),
-        Walked::Cut(at) => Collected::Cut(at),
+        Walked::Refused(x) => Collected::Refused(x),
     }
 }

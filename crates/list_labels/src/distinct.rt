@@ -47,7 +47,7 @@ fn count_between(a: &mut [u32], spare: &mut [u32], low: u64, high: u64) -> usize
 }
 
 // How many different numbers `a` holds. Both slices are left in any order.
-pub fn count_different(a: &mut [u32], spare: &mut [u32]) -> usize
+pub(crate) fn count_different(a: &mut [u32], spare: &mut [u32]) -> usize
     requires { ⌜ length (now a) ≤ length (now spare) ⌝ }
     ensures { λ r. ⌜ r ≡ different (now (a .entry)) ⌝ }
 {

@@ -24,7 +24,7 @@ fn is_flow_end(name: &[u8]) -> bool
 }
 
 // Whether the opcode whose name starts at `start` and is `size` long is one. A length of 0 is a gap, "<invalid>".
-pub fn ends_flow(sheet: &[u8], start: usize, size: usize) -> bool
+pub(crate) fn ends_flow(sheet: &[u8], start: usize, size: usize) -> bool
     ensures { λ r. ⌜ r ≡ endsFlow (nameShown (now (sheet .entry)) start size) ⌝ }
 {
     if size == 0 {

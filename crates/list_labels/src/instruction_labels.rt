@@ -90,7 +90,7 @@ fn note_behind(
 }
 
 // Notes the label offsets that the instruction at `at` contributes; `info` has its name and jump mark.
-pub fn note_instruction(
+pub(crate) fn note_instruction(
     sheet: &[u8],
     info: [usize; 4],
     row: [u8; 8],

@@ -21,7 +21,7 @@ fn store_far(stored: &mut [u32], n: usize, x: u32)
 }
 
 // Notes one offset.
-pub fn note(flags: &mut [u8], stored: &mut [u32], counts: Counts, x: u32) -> Counts
+pub(crate) fn note(flags: &mut [u8], stored: &mut [u32], counts: Counts, x: u32) -> Counts
     requires { ⌜ counts .near + counts .far < 18446744073709551615 ⌝ }
     ensures { λ r. ⌜ notesOf (now (flags .exit)) (now (stored .exit)) r ≡ notes.note (notesOf (now (flags .entry)) (now (stored .entry)) counts) x ⌝ }
 {

@@ -1,7 +1,6 @@
 ghost use mathlib.Core.Path.{_≡_};
 ghost use Prim.Native.Nat.{_^_, _<_, _≤_};
 ghost use Rattle.limits.specs.Limits.{bodyLimit};
-ghost use Rattle.spec_numbers.specs.TwosComplement.{signed};
 ghost use Rattle.spec_sheet.specs.Types.{widthOf, familyOf, addrFamily};
 ghost use Rattle.spec_listing.specs.Operand.{targetOf};
 use numbers::signed::sign_extend8;

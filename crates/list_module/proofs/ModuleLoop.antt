@@ -1,42 +1,27 @@
 -- The loop over a module's functions. Assumes nothing.
-use mathlib.Core.Path.{_≡_, refl, ap, sym, _∙_}
-use mathlib.Core.Bool.{Bool, true, false}
-use mathlib.Core.List.{List, [], _∷_, _++_, append-assoc, append-nil}
+use mathlib.Core.Path.{_≡_, refl, _∙_}
+use mathlib.Core.List.{List, [], _++_, append-assoc, append-nil}
 use Prim.Native.Nat.{ℕ, suc, _+_, _-_, _<_, _≤_, min, max}
 use native.Mathlib.Numerals.{add-one}
 use native.Mathlib.Omega.{arith}
-use types.Run.{OneOf}
-use lib.Dec.{leb}
 use lib.ListN.{length, length-append}
-use borrow.Author.Tests.{leb-true, leb-false}
 use Rattle.lists.specs.Write.{Put, top}
+use Rattle.lists.proofs.Tests.{by-leb}
 use Rattle.lists.proofs.Writes.{_then_, wrote-none, kept-length}
 use Rattle.spec_body.specs.Function.{functionCount}
 use Rattle.spec_inputs.specs.Context.{Context}
 use Rattle.spec_listing.specs.Options.{Options}
 use Rattle.spec_listing.specs.Listing.{Listed, append}
-use Rattle.spec_listing.specs.Listing.Listed.{listed, refused}
+use Rattle.spec_listing.specs.Listing.Listed.{listed, notListed}
 use Rattle.spec_listing.specs.Module.{Area, listFunctionIn, listFunctionsFrom, listAll}
-use Rattle.listing.proofs.WrittenLaws.{Text}
-use Rattle.list_module.specs.Modules.{partRefusal, PartWritten, ModuleWritten}
-use Rattle.list_module.specs.Modules.PartWritten.{complete, broken}
+use Rattle.listing.specs.Bodies.{Written}
+use Rattle.listing.specs.declared.body.Part.{Part}
+use Rattle.listing.specs.declared.body.Part.the-variants as part
+use Rattle.listing.proofs.WrittenLaws.{Text, was-listed, was-stopped}
+use Rattle.answers.specs.declared.refusal.Refusal.{Refusal}
+use Rattle.list_module.specs.Modules.{ModuleWritten}
 use Rattle.list_module.specs.Modules.ModuleWritten.{within, over, ended}
-use Rattle.list_module.specs.declared.function_part.FunctionPart.{FunctionPart}
-use Rattle.list_module.specs.declared.function_part.FunctionPart.the-variants as part
-use Rattle.operation.proofs.EndedLaws.{no-tag}
-
--- the number of `Listed` is none of the others
-pub not-listed : OneOf (1 ∷ 2 ∷ 3 ∷ 4 ∷ 5 ∷ 6 ∷ []) 0 → ⊥
-not-listed t = no-tag 0 (no-tag 1 (no-tag 2 (no-tag 3 (no-tag 4 (λ e. omega arith))))) t
-
--- the text of a function that was not refused
-part-listed : {x : Listed} {out out′ : List ℕ} {«from» : ℕ} {r : FunctionPart} {k n : ℕ} → PartWritten x out «from» out′ r → r ≡ part.Listed k n → Text x out «from» out′ k n
-unfolding partRefusal
-part-listed {k = k} {n = n} (complete t k′ n′ e q w) p =
-    let same-end : k′ ≡ k = cc (sym q ∙ p) in
-    let same-count : n′ ≡ n = cc (sym q ∙ p) in
-    record { lines = t; is-text = e ∙ ap (listed t) same-count; put = rw (sym same-end) w }
-part-listed (broken m p′ e q l) p = absurd (let z : _≡_ {A = ℕ} 0 1 = cc (sym (ap partRefusal p) ∙ q) in omega arith)
+use Rattle.operation.proofs.EndLaws.{zeros-of}
 
 -- nothing in front of a listing, nothing behind one, and three in a row
 append-first : (x : Listed) → x ≡ append (listed [] 0) x
@@ -44,7 +29,7 @@ unfolding append
 append-first (listed t n) =
     let m : max 0 n ≡ n = omega arith in
     rw m
-append-first (refused n p q) = refl
+append-first (notListed x) = refl
 
 append-last : (t : List ℕ) (n : ℕ) → append (listed t n) (listed [] 0) ≡ listed t n
 unfolding append
@@ -57,7 +42,7 @@ unfolding append
 append-both t u n m (listed v k) =
     let z : max n (max m k) ≡ max (max n m) k = omega arith in
     rw (append-assoc t u v, z)
-append-both t u n m (refused k p q) = refl
+append-both t u n m (notListed x) = refl
 
 -- the listing of the functions so far, before `rest`; its text is in the buffer while it is within the limit
 pub record Going (whole rest : Listed) (out₀ out : List ℕ) (at most : ℕ) : Type 0 where
@@ -86,27 +71,23 @@ module _ {whole : Listed} {out₀ : List ℕ} where
       }
 
   -- a function that is listed, one that is refused, and the end
-  turn : {x more rest : Listed} {out out′ : List ℕ} {at most k n at′ most′ : ℕ} {r : FunctionPart} → Going whole more out₀ out at most → more ≡ append x rest
-      → PartWritten x out at out′ r → r ≡ part.Listed k n → at′ ≡ min k 1048577 → most′ ≡ max most n → Going whole rest out₀ out′ at′ most′
-  turn g e w q a m = rw (a, m) (turn-text (rw e at g) (part-listed w q))
+  turn : {x more rest : Listed} {out out′ : List ℕ} {at most k n at′ most′ : ℕ} {r : Part} → Going whole more out₀ out at most → more ≡ append x rest
+      → Written x out at out′ r → r ≡ part.Listed k n → at′ ≡ min k 1048577 → most′ ≡ max most n → Going whole rest out₀ out′ at′ most′
+  turn g e w q a m = rw (a, m) (turn-text (rw e at g) (was-listed w q))
 
-  stopped : (rest : Listed) {x more : Listed} {out out′ : List ℕ} {at most : ℕ} {r : FunctionPart} → Going whole more out₀ out at most → more ≡ append x rest
-      → PartWritten x out at out′ r → ((k n : ℕ) → r ≡ part.Listed k n → ⊥) → ModuleWritten whole out₀ out′ r
+  stopped : (rest : Listed) {x more : Listed} {out out′ : List ℕ} {at most : ℕ} {r : Part} (f : Refusal) → Going whole more out₀ out at most → more ≡ append x rest
+      → Written x out at out′ r → r ≡ part.Refused f → ModuleWritten whole out₀ out′ r
   unfolding append
-  stopped rest g e (complete t k n f q w) h = absurd (h k n q)
-  stopped rest g e (broken n p f q l) h = ended n p (g .is-whole ∙ rw (e, f)) q (l ∙ g .same-size)
+  stopped rest {out = out} {out′ = out′} f g e w q =
+      let s = was-stopped w q in
+      ended f (g .is-whole ∙ rw (e, s .is-refused)) q (zeros-of out out₀ out′ (g .same-size) (s .cleared))
 
   finished : {out : List ℕ} {at most : ℕ} → Going whole (listed [] 0) out₀ out at most → ModuleWritten whole out₀ out (part.Listed at most)
-  finished {out} {at} {most} g = go (leb at 1048576) refl
-    where
-      go : (b : Bool) → leb at 1048576 ≡ b → ModuleWritten whole out₀ out (part.Listed at most)
-      go true e =
-          let l : at ≤ 1048576 = leb-true _ _ e in
-          within (g .so-far) at most (g .is-whole ∙ append-last (g .so-far) most) refl l (g .put l)
-      go false e =
-          let l : 1048576 < at = leb-false _ _ e in
-          let f : at ≡ 1048577 = omega (arith, g .at-is) in
-          over (g .so-far) most (g .is-whole ∙ append-last (g .so-far) most) (ap (λ (k : ℕ). part.Listed k most) f) (omega (arith, g .at-is)) (g .same-size)
+  finished {out} {at} {most} g =
+      let e = g .is-whole ∙ append-last (g .so-far) most in
+      by-leb at 1048576
+      (λ l. within (g .so-far) at most e refl (g .put l))
+      (λ l. over (g .so-far) at most e refl l (omega (arith, g .at-is)) (g .same-size))
 
 -- the functions from `id` on
 module _ (o : Options) (e : Context) (last : ℕ) (a : Area) where
@@ -134,13 +115,13 @@ module _ (o : Options) (e : Context) (last : ℕ) (a : Area) where
         let n : functionCount (a .functions) - 0 ≡ functionCount (a .functions) = omega arith in
         rw n (start h)
 
-    pub listing-turn : {out out′ : List ℕ} {id at most k n at′ most′ : ℕ} {r : FunctionPart} → Listing out₀ out id at most → id < functionCount (a .functions)
-        → PartWritten (listFunctionIn o e last a id) out at out′ r → r ≡ part.Listed k n → at′ ≡ min k 1048577 → most′ ≡ max most n → Listing out₀ out′ (id + 1) at′ most′
+    pub listing-turn : {out out′ : List ℕ} {id at most k n at′ most′ : ℕ} {r : Part} → Listing out₀ out id at most → id < functionCount (a .functions)
+        → Written (listFunctionIn o e last a id) out at out′ r → r ≡ part.Listed k n → at′ ≡ min k 1048577 → most′ ≡ max most n → Listing out₀ out′ (id + 1) at′ most′
     listing-turn {id = id} g h w q z y = turn g (rest-more id h) w q z y
 
-    pub listing-stopped : {out out′ : List ℕ} {id at most : ℕ} {r : FunctionPart} → Listing out₀ out id at most → id < functionCount (a .functions)
-        → PartWritten (listFunctionIn o e last a id) out at out′ r → ((k n : ℕ) → r ≡ part.Listed k n → ⊥) → ModuleWritten (listAll o e last a) out₀ out′ r
-    listing-stopped {id = id} g h w q = stopped (restFrom (id + 1)) g (rest-more id h) w q
+    pub listing-stopped : {out out′ : List ℕ} {id at most : ℕ} {r : Part} (f : Refusal) → Listing out₀ out id at most → id < functionCount (a .functions)
+        → Written (listFunctionIn o e last a id) out at out′ r → r ≡ part.Refused f → ModuleWritten (listAll o e last a) out₀ out′ r
+    listing-stopped {id = id} f g h w q = stopped (restFrom (id + 1)) f g (rest-more id h) w q
 
     pub listing-finished : {out : List ℕ} {id at most : ℕ} → Listing out₀ out id at most → functionCount (a .functions) ≤ id → ModuleWritten (listAll o e last a) out₀ out (part.Listed at most)
     listing-finished {id = id} g h = finished (rw (rest-none id h) at g)

@@ -28,7 +28,7 @@ fn put_banner(out: &mut [u8], k: usize, id: usize, name: &[u8]) -> usize
 }
 
 // The banner of a function whose name has an id in the string table.
-pub fn put_title(
+pub(crate) fn put_title(
     out: &mut [u8],
     k: usize,
     id: usize,

@@ -1,22 +1,20 @@
 // Listing a whole module.
 ghost use mathlib.Core.Path.{_≡_};
-ghost use mathlib.Core.List.{List};
-ghost use Prim.Native.Nat.{ℕ, _+_, min, max};
+ghost use mathlib.Core.List.{[], _∷_};
+ghost use Prim.Native.Nat.{_+_, min, max};
 ghost use lib.ListN.{length, replicate};
 ghost use Rattle.limits.specs.Limits.{listingLimit};
-ghost use Rattle.spec_answers.specs.Report.{refusal};
-ghost use Rattle.spec_listing.specs.Listing.{Listed};
-ghost use Rattle.spec_listing.specs.Listing.Listed.{refused};
+ghost use Rattle.answers.specs.Outcome.{Ended};
 ghost use Rattle.spec_listing.specs.Module.{listAll};
 ghost use Rattle.spec_listing.specs.Operation as operation;
 ghost use Rattle.spec_listing.specs.Operation.{listOutcome};
 ghost use Rattle.listing.specs.Parts.{optionsOf};
 ghost use Rattle.spec_inputs.specs.Context.{contextFrom};
-ghost use Rattle.listing.specs.Answers.{listReport, Ended};
+ghost use Rattle.listing.specs.Answers.{listReport};
 ghost use Rattle.listing.specs.Functions.{areaOf};
-ghost use Rattle.list_module.specs.Modules.{partRefusal, ModuleWritten};
-use crate::function_part::FunctionPart;
+ghost use Rattle.list_module.specs.Modules.{ModuleWritten};
 use listing::answer::ListAnswer;
+use listing::body::Part;
 use listing::options::Options;
 use operation::inputs::Inputs;
 use slices::write::clear;
@@ -28,7 +26,11 @@ const PAST_LIMIT: usize = 1048577;
 fn capped(k: usize) -> usize
     ensures { λ r. ⌜ r ≡ min k (listingLimit + 1) ⌝ }
 {
-    if PAST_LIMIT < k { PAST_LIMIT } else { k }
+    if limits::LISTING_LIMIT < k {
+        PAST_LIMIT
+    } else {
+        k
+    }
 }
 
 fn larger(a: usize, b: usize) -> usize
@@ -50,7 +52,7 @@ fn list_functions(
     area: &[u8],
     base: u32,
     out: &mut [u8],
-) -> FunctionPart
+) -> Part
     ensures { λ r. ⌜ ModuleWritten (listAll (optionsOf options) (contextFrom (now (sheet .entry)) (now (types .entry)) (now (ops .entry)) (now (bytes .entry)) (now (ends .entry))) last (areaOf (now (functions .entry)) (now (area .entry)) base)) (now (out .entry)) (now (out .exit)) r ⌝ }
 {
     let mut id: usize = 0;
@@ -72,47 +74,17 @@ fn list_functions(
             out,
             at,
         );
-        let FunctionPart::Listed(k, entries) = p else {
+        let Part::Listed(k, entries) = p else {
             return p;
         };
         at = capped(k);
         most = larger(most, entries);
         id += 1;
     }
-    FunctionPart::Listed(at, most)
+    Part::Listed(at, most)
 }
 
-// What a function that is refused answers.
-fn refused_part(p: FunctionPart) -> ListAnswer
-    ensures { λ r. ⌜ ((n place : ℕ) → partRefusal p ≡ refused n place 0 → listReport r ≡ refusal n place 0) ⌝ }
-{
-    match p {
-        FunctionPart::Listed(_, _) => ListAnswer::Done(0),
-        FunctionPart::NoFunction(id) => ListAnswer::NoFunction(id),
-        FunctionPart::TooLarge => ListAnswer::TooLarge,
-        FunctionPart::Title(id) => ListAnswer::Long(id),
-        FunctionPart::Beyond(at) => ListAnswer::Beyond(at),
-        FunctionPart::Cut(at) => ListAnswer::Cut(at),
-        FunctionPart::Long(at) => ListAnswer::Long(at),
-    }
-}
-
-// The end of a module's listing, where `lent` label entries are lent: 18 and 19 of the whole come last.
-fn end_module(p: FunctionPart, lent: usize, out: &mut [u8]) -> ListAnswer
-    ensures { λ r. ⌜ ((x : Listed) (before : List ℕ) → ModuleWritten x before (now (out .entry)) p → Ended (listOutcome lent x) before (now (out .exit)) r) ⌝ }
-{
-    let FunctionPart::Listed(k, entries) = p else {
-        clear(out);
-        return refused_part(p);
-    };
-    if limits::LISTING_LIMIT < k {
-        clear(out);
-        return ListAnswer::TooLarge;
-    }
-    listing::answer::measure(k, entries, lent, out)
-}
-
-// Lists a module under the tables of a sheet, whose names are parts of `sheet`.
+// Lists a module under the tables of a sheet, whose names are parts of `sheet`. 18 and 19 of the whole come last.
 fn module_under(
     options: Options,
     sheet: &[u8],
@@ -127,7 +99,7 @@ fn module_under(
     lent: usize,
     out: &mut [u8],
 ) -> ListAnswer
-    ensures { λ r. ⌜ Ended (listOutcome lent (listAll (optionsOf options) (contextFrom (now (sheet .entry)) (now (types .entry)) (now (ops .entry)) (now (bytes .entry)) (now (ends .entry))) last (areaOf (now (functions .entry)) (now (area .entry)) base))) (now (out .entry)) (now (out .exit)) r ⌝ }
+    ensures { λ r. ⌜ Ended (listOutcome (listAll (optionsOf options) (contextFrom (now (sheet .entry)) (now (types .entry)) (now (ops .entry)) (now (bytes .entry)) (now (ends .entry))) last (areaOf (now (functions .entry)) (now (area .entry)) base))) (now (out .entry)) (lent ∷ []) (now (out .exit)) (listReport r) ⌝ }
 {
     let p = list_functions(
         options,
@@ -142,7 +114,7 @@ fn module_under(
         base,
         out,
     );
-    end_module(p, lent, out)
+    listing::answer::finish(p, lent, out)
 }
 
 // Lists all functions of an area: `functions` are triples of offset, size and name id, and offsets count from `base`.
@@ -157,29 +129,31 @@ pub fn list_module(
     out: &mut [u8],
     entries: &mut [u32],
 ) -> ListAnswer
-    ensures { λ r. ⌜ Ended (operation.listModule (optionsOf options) (now (sheet .entry)) (now (bytes .entry)) (now (ends .entry)) (areaOf (now (functions .entry)) (now (area .entry)) base) (length (now (entries .entry)))) (now (out .entry)) (now (out .exit)) r ⌝ }
+    ensures { λ r. ⌜ Ended (operation.listModule (optionsOf options) (now (sheet .entry)) (now (bytes .entry)) (now (ends .entry)) (areaOf (now (functions .entry)) (now (area .entry)) base)) (now (out .entry)) (length (now (entries .entry)) ∷ []) (now (out .exit)) (listReport r) ⌝ }
     ensures { λ _. ⌜ now (entries .exit) ≡ replicate (length (now (entries .entry))) 0 ⌝ }
 {
     slices::clearing::clear_entries(entries);
     let mut types = [[0u8; 8]; 256];
     let mut ops = [[0usize; 4]; 256];
     let i = operation::inputs::read_inputs(sheet, bytes, ends, &mut types, &mut ops);
-    let Inputs::Ready(last) = i else {
-        clear(out);
-        return listing::list::refused_inputs(i);
-    };
-    module_under(
-        options,
-        sheet,
-        &types,
-        &ops,
-        last,
-        bytes,
-        ends,
-        functions,
-        area,
-        base,
-        entries.len(),
-        out,
-    )
+    match i {
+        Inputs::Ready(last) => module_under(
+            options,
+            sheet,
+            &types,
+            &ops,
+            last,
+            bytes,
+            ends,
+            functions,
+            area,
+            base,
+            entries.len(),
+            out,
+        ),
+        Inputs::Refused(x) => {
+            clear(out);
+            ListAnswer::Refused(x)
+        }
+    }
 }

@@ -5,8 +5,9 @@ use Prim.Native.Nat.{ℕ, _<_, _≤_}
 use lib.ListN.{length}
 use borrow.Author.Tests.{lt-ltb, le-ltb}
 use Rattle.spec_body.specs.Decode.{decodeBody}
-use Rattle.spec_answers.specs.Outcome.{Outcome}
-use Rattle.spec_answers.specs.Outcome.Outcome.{refusedWith}
+use Rattle.answers.specs.Outcome.{Outcome}
+use Rattle.answers.specs.Outcome.Outcome.{refusedWith}
+use Rattle.answers.specs.declared.refusal.Refusal.the-variants.{TooLarge}
 use Rattle.spec_inputs.specs.Context.{Context}
 use Rattle.spec_listing.specs.Options.{Options}
 use Rattle.spec_listing.specs.Listing.{listDecoded}
@@ -14,13 +15,13 @@ use Rattle.spec_listing.specs.Operation.{listOutcome, list}
 use Rattle.spec_inputs.specs.Inputs.{underInputs}
 
 -- a body that is too large, and one that is not
-pub list-large : (o : Options) (text bytes ends body : List ℕ) (lent : ℕ) → 65536 < length body → list o text bytes ends body lent ≡ refusedWith 18 0 0
+pub list-large : (o : Options) (text bytes ends body : List ℕ) → 65536 < length body → list o text bytes ends body ≡ refusedWith TooLarge
 unfolding list
-list-large o text bytes ends body lent h = rw (lt-ltb 65536 (length body) h)
+list-large o text bytes ends body h = rw (lt-ltb 65536 (length body) h)
 
-abbrev pub bodyUnder : Options → List ℕ → ℕ → Context → ℕ → Outcome
-bodyUnder o body lent e last = listOutcome lent (listDecoded o e [] (decodeBody (e .types) last body))
+abbrev pub bodyUnder : Options → List ℕ → Context → ℕ → Outcome
+bodyUnder o body e last = listOutcome (listDecoded o e [] (decodeBody (e .types) last body))
 
-pub list-small : (o : Options) (text bytes ends body : List ℕ) (lent : ℕ) → length body ≤ 65536 → list o text bytes ends body lent ≡ underInputs text bytes ends (bodyUnder o body lent)
+pub list-small : (o : Options) (text bytes ends body : List ℕ) → length body ≤ 65536 → list o text bytes ends body ≡ underInputs text bytes ends (bodyUnder o body)
 unfolding list
-list-small o text bytes ends body lent h = rw (le-ltb 65536 (length body) h)
+list-small o text bytes ends body h = rw (le-ltb 65536 (length body) h)

@@ -1,24 +1,37 @@
 -- What listing answers. Assumes nothing.
 use mathlib.Core.List.{List}
 use Prim.Native.Nat.{ℕ}
-use Rattle.spec_answers.specs.Report.{Report, refusal, success}
-use Rattle.spec_answers.specs.Outcome.{Outcome}
-use Rattle.operation.specs.Ends as endings
+use lib.ListN.{length}
+use Rattle.limits.specs.Limits.{listingLimit}
+use Rattle.answers.specs.Report.{Report, shortage, success}
+use Rattle.answers.specs.Refusals.{refusalReport}
+use Rattle.answers.specs.declared.refusal.Refusal.the-variants.{TooLarge}
+use Rattle.operation.specs.Ends.{measuredOf, leftBy}
+use Rattle.operation.specs.declared.ending.Measured.{Measured}
+use Rattle.operation.specs.declared.ending.Measured.the-variants as measured
+use Rattle.listing.specs.declared.body.Part.{Part}
+use Rattle.listing.specs.declared.body.Part.the-variants as part
 use Rattle.listing.specs.declared.answer.ListAnswer.{ListAnswer}
-use Rattle.listing.specs.declared.answer.ListAnswer.the-variants.{Done, Malformed, Long, Beyond, Cut, Fault, TooLarge, Short, NoFunction}
+use Rattle.listing.specs.declared.answer.ListAnswer.the-variants.{Done, Refused, Short}
 
 -- document 01's number, place, operand and length of each answer
 unfoldable pub listReport : ListAnswer → Report
 listReport (Done n) = success n
-listReport (Malformed line) = refusal 1 line 0
-listReport (Long place) = refusal 3 place 0
-listReport (Beyond at) = refusal 13 at 0
-listReport (Cut at) = refusal 14 at 0
-listReport (Fault id) = refusal 17 id 0
-listReport TooLarge = refusal 18 0 0
-listReport Short = refusal 19 0 0
-listReport (NoFunction id) = refusal 20 id 0
+listReport (Refused x) = refusalReport x
+listReport Short = shortage
 
--- an outcome is reported, and the lent output, which was `before`, is as it says
-abbrev pub Ended : Outcome → List ℕ → List ℕ → ListAnswer → Type 0
-Ended x before after r = endings.Ended x before after (listReport r)
+-- the answer of a listing of k bytes that was measured
+unfoldable pub measuredAnswer : ℕ → Measured → ListAnswer
+measuredAnswer k measured.Fits = Done k
+measuredAnswer k measured.TooLarge = Refused TooLarge
+measuredAnswer k measured.Short = Short
+
+-- the answer of a listing that is one part, where so many label entries and bytes are lent: "18, 19"
+unfoldable pub answerOf : Part → ℕ → ℕ → ListAnswer
+answerOf (part.Listed k entries) lent room = measuredAnswer k (measuredOf k listingLimit entries lent room)
+answerOf (part.Refused x) lent room = Refused x
+
+-- and the output afterwards; that of a refused part is all zero already
+unfoldable pub outputAfter : Part → ℕ → List ℕ → List ℕ
+outputAfter (part.Listed k entries) lent out = leftBy (measuredOf k listingLimit entries lent (length out)) out
+outputAfter (part.Refused x) lent out = out

@@ -10,11 +10,10 @@ use Rattle.lists.specs.Found.{Found}
 use Rattle.lists.specs.Found.Found.{found, missing}
 use Rattle.lists.specs.Write.{Put}
 use Rattle.spec_body.specs.Decode.{Decoded, decodeBody}
-use Rattle.spec_body.specs.Decode.Decoded.{decoded, beyond, cut}
+use Rattle.spec_body.specs.Decode.Decoded.{decoded, notDecoded}
 use Rattle.spec_listing.specs.Options.{Options}
 use Rattle.spec_listing.specs.Labels.{among}
-use Rattle.spec_listing.specs.Listing.{Listed, labelLine}
-use Rattle.spec_listing.specs.Listing.Listed.{listed, refused}
+use Rattle.spec_listing.specs.Listing.{labelLine}
 use Rattle.listing.specs.declared.body_lines.Lines.{Lines}
 use Rattle.listing.specs.declared.body_lines.Lines.the-variants as lines
 use Rattle.listing.specs.declared.options.Options as declared
@@ -26,8 +25,7 @@ pub record Decodes (types : List (List ℕ)) (last : ℕ) (s : List ℕ) : Type 
 
 unfoldable pub recordsOf : Decoded → List (List ℕ)
 recordsOf (decoded rs) = rs
-recordsOf (beyond at) = []
-recordsOf (cut at) = []
+recordsOf (notDecoded x) = []
 
 -- flags that say which offsets have a label
 abbrev pub Flagged : List ℕ → List ℕ → Type 0

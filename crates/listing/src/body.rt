@@ -6,19 +6,30 @@ ghost use Rattle.limits.specs.Limits.{bodyLimit, listingLimit};
 ghost use Rattle.spec_body.specs.Decode.{decodeBody};
 ghost use Rattle.spec_listing.specs.Listing.{listDecoded};
 ghost use Rattle.lists.specs.Choice.{pick};
+ghost use Rattle.answers.specs.Report.{zeros};
 ghost use Rattle.listing.specs.Parts.{optionsOf};
 ghost use Rattle.spec_inputs.specs.Context.{contextFrom};
 ghost use Rattle.listing.specs.Bodies.{Written};
+ghost use Rattle.listing.specs.declared.body.Part.the-variants.{Refused};
 use crate::body_lines::Lines;
 use crate::options::Options;
+use answers::refusal::Refusal;
 use list_labels::collect::Collected;
+use slices::write::clear;
 
-// The next position and the label entries needed; or where the body is refused: 13, 14, 3.
+// A part of a listing: the next position and the label entries needed; or why it is refused.
 pub enum Part {
     Listed(usize, usize),
-    Beyond(usize),
-    Cut(usize),
-    Long(usize),
+    Refused(Refusal),
+}
+
+// A part that is refused. The output is cleared here, so that a caller only passes the refusal on.
+pub fn refuse_part(x: Refusal, out: &mut [u8]) -> Part
+    ensures { λ r. ⌜ r ≡ Refused x ⌝ }
+    ensures { λ _. ⌜ now (out .exit) ≡ zeros (now (out .entry)) ⌝ }
+{
+    clear(out);
+    Part::Refused(x)
 }
 
 // How many label entries are needed: none where labels are not shown.
@@ -66,11 +77,10 @@ fn list_flagged(
             );
             match l {
                 Lines::To(k) => Part::Listed(k, entries_for(options.show_labels, n)),
-                Lines::Long(at) => Part::Long(at),
+                Lines::Long(at) => refuse_part(Refusal::LongLine(at), out),
             }
         }
-        Collected::Beyond(at) => Part::Beyond(at),
-        Collected::Cut(at) => Part::Cut(at),
+        Collected::Refused(x) => refuse_part(x, out),
     }
 }
 
@@ -86,7 +96,7 @@ fn all_flags() -> [u8; limits::BODY_LIMIT] {
     [0; limits::BODY_LIMIT]
 }
 
-// Lists a body at position `from`. A small body takes small flags, which cost less to clear.
+// Lists a body at position `from`: 13, 14, 3. A small body takes small flags, which cost less to clear.
 pub fn list_body(
     options: Options,
     sheet: &[u8],
@@ -105,7 +115,7 @@ pub fn list_body(
 {
     if s.len() <= SMALL_BODY {
         let mut flags = few_flags();
-        slices::write::clear(&mut flags);
+        clear(&mut flags);
         return list_flagged(
             options,
             sheet,
@@ -122,7 +132,7 @@ pub fn list_body(
         );
     }
     let mut flags = all_flags();
-    slices::write::clear(&mut flags);
+    clear(&mut flags);
     list_flagged(
         options,
         sheet,

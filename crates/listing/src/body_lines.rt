@@ -49,7 +49,7 @@ fn put_flagged_label(
 }
 
 // Writes all lines. The caller keeps `from` small, so that a line's length is known from the two positions around it.
-pub fn list_lines(
+pub(crate) fn list_lines(
     options: Options,
     sheet: &[u8],
     types: &[[u8; 8]; 256],

@@ -40,7 +40,7 @@ fn put_name(out: &mut [u8], k: usize, sheet: &[u8], start: usize, size: usize) -
 }
 
 // Writes the instruction at `at` of the body s, under a sheet's text and tables and a string table.
-pub fn put_instruction(
+pub(crate) fn put_instruction(
     out: &mut [u8],
     k: usize,
     options: Options,

@@ -1,6 +1,6 @@
 // Listing a body.
 ghost use mathlib.Core.Path.{_≡_};
-ghost use mathlib.Core.List.{[]};
+ghost use mathlib.Core.List.{[], _∷_};
 ghost use Prim.Native.Nat.{_≤_};
 ghost use lib.ListN.{length, replicate};
 ghost use Rattle.limits.specs.Limits.{bodyLimit};
@@ -10,10 +10,11 @@ ghost use Rattle.spec_listing.specs.Operation as operation;
 ghost use Rattle.spec_listing.specs.Operation.{listOutcome};
 ghost use Rattle.listing.specs.Parts.{optionsOf};
 ghost use Rattle.spec_inputs.specs.Context.{contextFrom};
-ghost use Rattle.listing.specs.Answers.{listReport, Ended};
-ghost use Rattle.operation.specs.Read.{inputsReport};
+ghost use Rattle.answers.specs.Outcome.{Ended};
+ghost use Rattle.listing.specs.Answers.{listReport};
 use crate::answer::ListAnswer;
 use crate::options::Options;
+use answers::refusal::Refusal;
 use operation::inputs::Inputs;
 use slices::write::clear;
 
@@ -31,7 +32,7 @@ pub fn list_under(
     out: &mut [u8],
 ) -> ListAnswer
     requires { ⌜ length (now s) ≤ bodyLimit ⌝ }
-    ensures { λ r. ⌜ Ended (listOutcome lent (listDecoded (optionsOf options) (contextFrom (now (sheet .entry)) (now (types .entry)) (now (ops .entry)) (now (bytes .entry)) (now (ends .entry))) [] (decodeBody (now (types .entry)) last (now (s .entry))))) (now (out .entry)) (now (out .exit)) r ⌝ }
+    ensures { λ r. ⌜ Ended (listOutcome (listDecoded (optionsOf options) (contextFrom (now (sheet .entry)) (now (types .entry)) (now (ops .entry)) (now (bytes .entry)) (now (ends .entry))) [] (decodeBody (now (types .entry)) last (now (s .entry))))) (now (out .entry)) (lent ∷ []) (now (out .exit)) (listReport r) ⌝ }
 {
     let p = crate::body::list_body(
         options,
@@ -49,18 +50,6 @@ pub fn list_under(
     crate::answer::finish(p, lent, out)
 }
 
-// What inputs that are refused answer.
-pub fn refused_inputs(i: Inputs) -> ListAnswer
-    ensures { λ r. ⌜ listReport r ≡ inputsReport i ⌝ }
-{
-    match i {
-        Inputs::Ready(_) => ListAnswer::Done(0),
-        Inputs::TooLarge => ListAnswer::TooLarge,
-        Inputs::Fault(id) => ListAnswer::Fault(id),
-        Inputs::Malformed(line) => ListAnswer::Malformed(line),
-    }
-}
-
 // Lists a body under a sheet given as text and a string table.
 pub fn list(
     options: Options,
@@ -71,31 +60,33 @@ pub fn list(
     out: &mut [u8],
     entries: &mut [u32],
 ) -> ListAnswer
-    ensures { λ r. ⌜ Ended (operation.list (optionsOf options) (now (sheet .entry)) (now (bytes .entry)) (now (ends .entry)) (now (body .entry)) (length (now (entries .entry)))) (now (out .entry)) (now (out .exit)) r ⌝ }
+    ensures { λ r. ⌜ Ended (operation.list (optionsOf options) (now (sheet .entry)) (now (bytes .entry)) (now (ends .entry)) (now (body .entry))) (now (out .entry)) (length (now (entries .entry)) ∷ []) (now (out .exit)) (listReport r) ⌝ }
     ensures { λ _. ⌜ now (entries .exit) ≡ replicate (length (now (entries .entry))) 0 ⌝ }
 {
     slices::clearing::clear_entries(entries);
     if limits::BODY_LIMIT < body.len() {
         clear(out);
-        return ListAnswer::TooLarge;
+        return ListAnswer::Refused(Refusal::TooLarge);
     }
     let mut types = [[0u8; 8]; 256];
     let mut ops = [[0usize; 4]; 256];
     let i = operation::inputs::read_inputs(sheet, bytes, ends, &mut types, &mut ops);
-    let Inputs::Ready(last) = i else {
-        clear(out);
-        return refused_inputs(i);
-    };
-    list_under(
-        options,
-        sheet,
-        &types,
-        &ops,
-        last,
-        bytes,
-        ends,
-        body,
-        entries.len(),
-        out,
-    )
+    match i {
+        Inputs::Ready(last) => list_under(
+            options,
+            sheet,
+            &types,
+            &ops,
+            last,
+            bytes,
+            ends,
+            body,
+            entries.len(),
+            out,
+        ),
+        Inputs::Refused(x) => {
+            clear(out);
+            ListAnswer::Refused(x)
+        }
+    }
 }

@@ -57,7 +57,7 @@ fn put_target(out: &mut [u8], k: usize, target: u32) -> usize
 }
 
 // Writes an operand of the instruction at `at`.
-pub fn put_operand(
+fn put_operand(
     out: &mut [u8],
     k: usize,
     texts: bool,
@@ -92,7 +92,7 @@ fn put_separator(out: &mut [u8], k: usize, i: usize) -> usize
 }
 
 // Writes the operands of the instruction at `at`, whose types are the row's.
-pub fn put_operands(
+pub(crate) fn put_operands(
     out: &mut [u8],
     k: usize,
     texts: bool,

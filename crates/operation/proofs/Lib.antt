@@ -1,5 +1,4 @@
 pub mod EndLaws
-pub mod NumberLaws
 pub mod UnderLaws
 pub mod EndedLaws
 pub mod TableLaws

@@ -5,19 +5,20 @@ use Prim.Native.Nat.{ℕ}
 use native.Mathlib.Omega.{arith}
 use Rattle.spec_sheet.specs.Sheet.{SheetRead, sheetOf}
 use Rattle.spec_sheet.specs.Sheet.SheetRead.{sheet, malformed}
-use Rattle.spec_answers.specs.Outcome.{Outcome}
+use Rattle.answers.specs.Outcome.{Outcome}
 use Rattle.spec_inputs.specs.Inputs.{underTable, underSheet, underContext, underInputs}
-use Rattle.spec_answers.specs.Outcome.Outcome.{refusedWith}
+use Rattle.answers.specs.Outcome.Outcome.{refusedWith}
 use Rattle.sheet.specs.Sheets.{sheetAnswer, typesIn, infosIn}
 use Rattle.sheet.specs.declared.opcode.SheetRead.{SheetRead as Numbers}
 use Rattle.sheet.specs.declared.opcode.Sheet.the-variants as sheets
 use Rattle.sheet.proofs.SheetAnswers as answers
 use Rattle.sheet.proofs.SheetAnswers.{few-opcodes}
-use Rattle.operation.specs.Read.{inputsReport, Under, SheetGiven, Given}
+use Rattle.operation.specs.Read.{Under, SheetGiven, Given}
 use Rattle.operation.specs.Read.Under.{ready, refused}
 use Rattle.operation.specs.declared.inputs.Inputs.{Inputs}
-use Rattle.operation.proofs.TableLaws.{AreRefused}
-use Rattle.operation.specs.declared.inputs.Inputs.the-variants.{Ready, Malformed}
+use Rattle.answers.specs.declared.refusal.Refusal.{Refusal}
+use Rattle.operation.specs.declared.inputs.Inputs.the-variants.{Ready, Refused}
+use Rattle.answers.specs.declared.refusal.Refusal.the-variants.{Malformed}
 
 -- what follows a sheet that was read, and one that is malformed
 module _ (x : SheetRead) (then : List (List ℕ) → ℕ → Outcome) where
@@ -25,7 +26,7 @@ module _ (x : SheetRead) (then : List (List ℕ) → ℕ → Outcome) where
   unfolding underSheet typesIn
   under-read e = let w = answers.was-read x e in rw (w .is-sheet, w .last)
 
-  pub under-none : {k : ℕ} → sheetAnswer x ≡ sheets.Malformed k → underSheet x then ≡ refusedWith 1 k 0
+  pub under-none : {k : ℕ} → sheetAnswer x ≡ sheets.Malformed k → underSheet x then ≡ refusedWith (Malformed k)
   unfolding underSheet
   under-none e = rw (answers.was-malformed x e)
 
@@ -38,14 +39,14 @@ was-read text a types ops t o bytes ends =
     let e = w .is-sheet in
     ready (w .of .opcodes) (t ∙ ap typesIn e) (o ∙ ap infosIn e) (omega (arith, w .last, few-opcodes text a)) (λ then. ap (λ (x : SheetRead). underContext x text bytes ends then) e) (ap Ready (sym (w .last)))
 
-pub was-malformed : (text : List ℕ) {line : ℕ} (types ops : List (List ℕ)) → sheetAnswer (sheetOf text) ≡ sheets.Malformed line → SheetGiven text types ops (Malformed line)
-unfolding underContext inputsReport
-was-malformed text {line} types ops a bytes ends = refused 1 line (omega arith) (λ then. rw (answers.was-malformed (sheetOf text) a)) refl
+pub was-malformed : (text : List ℕ) {line : ℕ} (types ops : List (List ℕ)) → sheetAnswer (sheetOf text) ≡ sheets.Malformed line → SheetGiven text types ops (Refused (Malformed line))
+unfolding underContext
+was-malformed text {line} types ops a bytes ends = refused (Malformed line) (λ then. rw (answers.was-malformed (sheetOf text) a)) refl
 
 -- the table's refusals come first
-pub table-refused : {text bytes ends : List ℕ} {types ops : List (List ℕ)} {i : Inputs} → AreRefused bytes ends i → Given text bytes ends types ops i
+pub table-refused : {text bytes ends : List ℕ} {types ops : List (List ℕ)} {i : Inputs} (x : Refusal) → ((rest : Outcome) → underTable bytes ends rest ≡ refusedWith x) → i ≡ Refused x → Given text bytes ends types ops i
 unfolding underInputs
-table-refused w = refused (w .number) (w .place) (w .some) (λ then. w .stops _) (w .told)
+table-refused x stops e = refused x (λ then. stops _) e
 
 -- behind a good table the sheet decides
 pub table-ready : {text bytes ends : List ℕ} {types ops : List (List ℕ)} {r : Inputs} → ((rest : Outcome) → underTable bytes ends rest ≡ rest) → SheetGiven text types ops r → Given text bytes ends types ops r
@@ -54,4 +55,4 @@ table-ready {text} {bytes} {ends} {types} {ops} {r} h g = by-case (g bytes ends)
   where
     by-case : Under text bytes ends (underContext (sheetOf text) text bytes ends) types ops r → Under text bytes ends (underInputs text bytes ends) types ops r
     by-case (ready os t o l k q) = ready os t o l (λ then. h _ ∙ k then) q
-    by-case (refused n p l k q) = refused n p l (λ then. h _ ∙ k then) q
+    by-case (refused x k q) = refused x (λ then. h _ ∙ k then) q

@@ -2,22 +2,15 @@
 use mathlib.Core.Path.{_≡_}
 use mathlib.Core.List.{List}
 use Prim.Native.Nat.{ℕ, _≤_}
-use Rattle.spec_answers.specs.Report.{Report, refusal, success}
+use Rattle.answers.specs.declared.refusal.Refusal.{Refusal}
 use Rattle.spec_sheet.specs.Line.{Op}
 use Rattle.spec_sheet.specs.Sheet.{sheetOf, typeRows, infoRows, largest}
-use Rattle.spec_answers.specs.Outcome.{Outcome}
-use Rattle.spec_answers.specs.Outcome.Outcome.{refusedWith}
+use Rattle.answers.specs.Outcome.{Outcome}
+use Rattle.answers.specs.Outcome.Outcome.{refusedWith}
 use Rattle.spec_inputs.specs.Context.{Context}
 use Rattle.spec_inputs.specs.Inputs.{underContext, underInputs, contextOf}
 use Rattle.operation.specs.declared.inputs.Inputs.{Inputs}
-use Rattle.operation.specs.declared.inputs.Inputs.the-variants.{Ready, TooLarge, Fault, Malformed}
-
--- document 01's number, place and operand of inputs that are refused
-unfoldable pub inputsReport : Inputs → Report
-inputsReport (Ready last) = success 0
-inputsReport TooLarge = refusal 18 0 0
-inputsReport (Fault id) = refusal 17 id 0
-inputsReport (Malformed line) = refusal 1 line 0
+use Rattle.operation.specs.declared.inputs.Inputs.the-variants.{Ready, Refused}
 
 -- an outcome under inputs: they were read, so that it goes on under the tables and the largest opcode; or they are refused,
 -- whatever follows
@@ -25,8 +18,7 @@ pub data Under (text bytes ends : List ℕ) (outcome : (Context → ℕ → Outc
   ready : (os : List Op) → types ≡ typeRows os → ops ≡ infoRows os → largest os ≤ 255
       → ((then : Context → ℕ → Outcome) → outcome then ≡ then (contextOf text os bytes ends) (largest os))
       → r ≡ Ready (largest os) → Under text bytes ends outcome types ops r
-  refused : (n p : ℕ) → 1 ≤ n → ((then : Context → ℕ → Outcome) → outcome then ≡ refusedWith n p 0) → inputsReport r ≡ refusal n p 0
-      → Under text bytes ends outcome types ops r
+  refused : (x : Refusal) → ((then : Context → ℕ → Outcome) → outcome then ≡ refusedWith x) → r ≡ Refused x → Under text bytes ends outcome types ops r
 
 -- a sheet alone, for any string table
 abbrev pub SheetGiven : List ℕ → List (List ℕ) → List (List ℕ) → Inputs → Type 0

@@ -1,6 +1,7 @@
 // Functions of an area: where one's body lies.
 ghost use mathlib.Core.Path.{_≡_};
 ghost use Rattle.operation.specs.Places.{locatedOf, Within};
+use answers::refusal::Refusal;
 use slices::widen::wide;
 
 // A function's body in its area, and the id of its name.
@@ -10,11 +11,10 @@ pub struct Function {
     pub name: usize,
 }
 
-// A function inside of its area; or 18 of its body, or 20.
+// A function inside of its area; or 20, or 18 of its body.
 pub enum Located {
     Inside(Function),
-    TooLarge,
-    Outside,
+    Refused(Refusal),
 }
 
 // Looks a function up: its triple has to be in the list and its body in the area, 20, and then its size is limited, 18.
@@ -23,19 +23,19 @@ pub fn locate(functions: &[u32], area: &[u8], base: u32, id: usize) -> Located
     ensures { λ r. ⌜ Within (now (area .entry)) r ⌝ }
 {
     if functions.len() / 3 <= id {
-        return Located::Outside;
+        return Located::Refused(Refusal::NoFunction(id));
     }
     let offset = wide(functions[3 * id]);
     let size = wide(functions[3 * id + 1]);
     if offset < wide(base) {
-        return Located::Outside;
+        return Located::Refused(Refusal::NoFunction(id));
     }
     let start = offset - wide(base);
     if area.len() < start + size {
-        return Located::Outside;
+        return Located::Refused(Refusal::NoFunction(id));
     }
     if limits::BODY_LIMIT < size {
-        return Located::TooLarge;
+        return Located::Refused(Refusal::TooLarge);
     }
     let name = wide(functions[3 * id + 2]);
     Located::Inside(Function { start, size, name })

@@ -2,15 +2,14 @@
 ghost use mathlib.Core.Path.{_≡_};
 ghost use Rattle.operation.specs.Read.{SheetGiven, Given};
 ghost use Rattle.operation.specs.Tables.{tableInputs};
+use answers::refusal::Refusal;
 use sheet::opcode::Sheet;
 use slices::search::Found;
 
-// The largest opcode of a sheet that was read; or 18, the entry of 17, or the line of 1.
+// The largest opcode of a sheet that was read; or 18, 17 or 1.
 pub enum Inputs {
     Ready(usize),
-    TooLarge,
-    Fault(usize),
-    Malformed(usize),
+    Refused(Refusal),
 }
 
 // Reads the sheet into its tables.
@@ -20,7 +19,7 @@ fn read_tables(sheet: &[u8], types: &mut [[u8; 8]; 256], ops: &mut [[usize; 4]; 
     let s = sheet::opcode::read_sheet(sheet, types, ops);
     match s {
         Sheet::Read(read) => Inputs::Ready(read.largest),
-        Sheet::Malformed(line) => Inputs::Malformed(line),
+        Sheet::Malformed(line) => Inputs::Refused(Refusal::Malformed(line)),
     }
 }
 
@@ -29,11 +28,11 @@ pub fn table_inputs(last: usize, bytes: &[u8], ends: &[u32]) -> Inputs
     ensures { λ r. ⌜ r ≡ tableInputs last (now (bytes .entry)) (now (ends .entry)) ⌝ }
 {
     if strings::table::too_large(bytes, ends) {
-        return Inputs::TooLarge;
+        return Inputs::Refused(Refusal::TooLarge);
     }
     let f = strings::table::find_fault(bytes, ends);
     match f {
-        Found::At(id) => Inputs::Fault(id),
+        Found::At(id) => Inputs::Refused(Refusal::BadString(id)),
         Found::Missing => Inputs::Ready(last),
     }
 }

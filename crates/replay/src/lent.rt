@@ -1,4 +1,9 @@
 // The space lent to a call: how it is before the call, and whether it is afterwards as recorded.
+ghost use mathlib.Core.Path.{_≡_};
+ghost use lib.ListN.{length, replicate};
+ghost use Rattle.lists.specs.Write.{put};
+ghost use Rattle.replay.specs.Words.{numbersOver, bytesOf};
+ghost use Rattle.replay.specs.Lent.{allAre, leftAs};
 use numbers::io::put_le;
 use numbers::io::read_le;
 use slices::compare::same_bytes;
@@ -6,7 +11,10 @@ use slices::compare::same_bytes;
 // The byte that lent space holds before a call.
 pub const FILL: u8 = 0xA5;
 
-pub fn fill(s: &mut [u8], b: u8) {
+// Sets every byte to b.
+pub fn fill(s: &mut [u8], b: u8)
+    ensures { λ _. ⌜ now (s .exit) ≡ replicate (length (now (s .entry))) b ⌝ }
+{
     let mut i: usize = 0;
     while i < s.len() {
         s[i] = b;
@@ -15,7 +23,9 @@ pub fn fill(s: &mut [u8], b: u8) {
 }
 
 // Whether every byte is b.
-fn all_are(s: &[u8], b: u8) -> bool {
+fn all_are(s: &[u8], b: u8) -> bool
+    ensures { λ r. ⌜ r ≡ allAre b (now (s .entry)) ⌝ }
+{
     let mut i: usize = 0;
     while i < s.len() {
         if s[i] != b {
@@ -27,7 +37,9 @@ fn all_are(s: &[u8], b: u8) -> bool {
 }
 
 // Whether a call that answered `number` left the lent bytes as expected.
-pub fn is_left(lent: &[u8], expected: &[u8], number: u64) -> bool {
+pub fn is_left(lent: &[u8], expected: &[u8], number: u64) -> bool
+    ensures { λ r. ⌜ r ≡ leftAs (now (lent .entry)) (now (expected .entry)) number ⌝ }
+{
     let n = expected.len();
     if lent.len() < n {
         return false;
@@ -42,7 +54,9 @@ pub fn is_left(lent: &[u8], expected: &[u8], number: u64) -> bool {
 }
 
 // Sets the words to those whose little-endian bytes s holds, as far as both go.
-pub fn words_of(s: &[u8], words: &mut [u64]) {
+pub fn words_of(s: &[u8], words: &mut [u64])
+    ensures { λ _. ⌜ now (words .exit) ≡ numbersOver 8 (now (s .entry)) (now (words .entry)) ⌝ }
+{
     let mut at: usize = 0;
     let mut i: usize = 0;
     while i < words.len() {
@@ -56,7 +70,9 @@ pub fn words_of(s: &[u8], words: &mut [u64]) {
 }
 
 // Writes the words' little-endian bytes to the front of out, as far as they fit.
-pub fn bytes_of(words: &[u64], out: &mut [u8]) {
+pub fn bytes_of(words: &[u64], out: &mut [u8])
+    ensures { λ _. ⌜ now (out .exit) ≡ put (now (out .entry)) 0 (bytesOf 8 (now (words .entry))) ⌝ }
+{
     let mut at: usize = 0;
     let mut i: usize = 0;
     while i < words.len() {

@@ -5,6 +5,8 @@ use crate::lent::words_of;
 use crate::parts::Performed;
 use crate::parts::perform_part;
 use crate::parts::written;
+use job::run::RunAnswer;
+use slices::part::part_of;
 use slices::write::put_bytes;
 
 // Has the desk do an operation on lent bytes.
@@ -61,6 +63,9 @@ fn encode(sheet: &[u8], input: &[u8], out: &mut [u8]) -> Performed {
 // Runs a job, and copies what it prints.
 fn run(job: &[u8], out: &mut [u8]) -> Performed {
     let mut text = text_space();
-    let k = job::run::run(job, &mut text);
-    written(put_bytes(out, 0, &text[0..k]))
+    let a = job::run::run(job, &mut text);
+    match a {
+        RunAnswer::Done(k) => written(put_bytes(out, 0, part_of(&text, 0, k))),
+        RunAnswer::Short => Performed::Broken,
+    }
 }

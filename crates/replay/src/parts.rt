@@ -1,9 +1,9 @@
 // The answer of an operation, how much an operation lends, and the operations on numbers and escapes.
 use crate::case::Head;
+use answers::numbers::Numbers;
 use desk_parts::PartNumber;
 use numbers::io::put_le;
 use numbers::io::read_le;
-use operation::ending::Numbers;
 use slices::write::clear;
 
 // The answer, or that label entries are not clear afterwards, or that there is no such operation or the input is not of its

@@ -10,7 +10,8 @@ use Rattle.spec_sheet.specs.Types.{widthOf}
 use Rattle.spec_sheet.specs.Row.{lengthOf}
 use Rattle.spec_body.specs.Record.{recordOf, pairs, join}
 use Rattle.spec_body.specs.Decode.{Decoded, prepend, rowAt, decodeFrom, decodeBody}
-use Rattle.spec_body.specs.Decode.Decoded.{decoded, beyond, cut}
+use Rattle.spec_body.specs.Decode.Decoded.{decoded, notDecoded}
+use Rattle.answers.specs.declared.refusal.Refusal.the-variants.{Beyond, Cut}
 
 -- a pair for each type code
 pub length-pairs : (row s : List ℕ) (p : ℕ) → length (pairs row s p) ≡ 2 * length row
@@ -43,12 +44,12 @@ module _ (types : List (List ℕ)) (last : ℕ) (s : List ℕ) where
   at-end zero at h = refl
   at-end (suc f) at h = rw (le-leb (length s) at h)
 
-  pub at-beyond : (f at : ℕ) → at < length s → last < getD s at 0 → decodeFrom (suc f) types last s at ≡ beyond at
+  pub at-beyond : (f at : ℕ) → at < length s → last < getD s at 0 → decodeFrom (suc f) types last s at ≡ notDecoded (Beyond at)
   unfolding decodeFrom
   at-beyond f at h l = rw (lt-leb (length s) at h, lt-ltb last (getD s at 0) l)
 
   pub at-cut : (f at next : ℕ) → next ≡ at + lengthOf (rowAt types s at) → at < length s → getD s at 0 ≤ last → length s < next
-      → decodeFrom (suc f) types last s at ≡ cut at
+      → decodeFrom (suc f) types last s at ≡ notDecoded (Cut at)
   unfolding decodeFrom
   at-cut f at next e h l g =
       let k : length s < at + lengthOf (rowAt types s at) = omega arith in
@@ -74,8 +75,7 @@ pub data Prepended (r : List ℕ) (d : Decoded) (rs : List (List ℕ)) : Type 0 
 pub prepended : (r : List ℕ) (d : Decoded) (rs : List (List ℕ)) → prepend r d ≡ decoded rs → Prepended r d rs
 unfolding prepend
 prepended r (decoded rest) rs e = behind rest refl (cc e)
-prepended r (beyond at) rs e = absurd (let z : _≡_ {A = ℕ} 0 1 = cc e in omega arith)
-prepended r (cut at) rs e = absurd (let z : _≡_ {A = ℕ} 0 1 = cc e in omega arith)
+prepended r (notDecoded x) rs e = absurd (let z : _≡_ {A = ℕ} 0 1 = cc e in omega arith)
 
 module _ (types : List (List ℕ)) (last : ℕ) (s : List ℕ) where
   -- records that stand there are decoded

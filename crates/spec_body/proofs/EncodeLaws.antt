@@ -17,7 +17,8 @@ use Rattle.spec_sheet.specs.Row.{countOf}
 use Rattle.spec_body.specs.Record.{recordWords}
 use Rattle.spec_body.specs.Encode.{goodPair, goodPairs, goodShape, encodeOperand, Operands, prependBytes, operandBytes, encodeOperands, Encoded, appendTo, withOperands, encodeRecord, encodeFrom, encodeRecords}
 use Rattle.spec_body.specs.Encode.Operands.{bytes, misfit}
-use Rattle.spec_body.specs.Encode.Encoded.{encoded, refused}
+use Rattle.spec_body.specs.Encode.Encoded.{encoded, notEncoded}
+use Rattle.answers.specs.declared.refusal.Refusal.the-variants.{Beyond, OperandCount, BadRecord}
 use Rattle.spec_body.proofs.OperandLaws.{no-zero}
 
 -- a pair that is used, and one that is not
@@ -71,17 +72,17 @@ operand-then {P} cs words k c os h e then = go (encodeOperand c (getD words 0 0)
 
 -- one record: its shape is bad, its opcode is beyond the largest, its count is wrong, or it comes down to its operands
 module _ (types : List (List ℕ)) (last i : ℕ) (r : List ℕ) (rest : Encoded) where
-  pub record-bad : goodShape r ≡ false → encodeRecord types last i r rest ≡ refused 15 i 0
+  pub record-bad : goodShape r ≡ false → encodeRecord types last i r rest ≡ notEncoded (BadRecord i)
   unfolding encodeRecord
   record-bad e = rw e
 
   module _ (g : goodShape r ≡ true) where
-    pub record-beyond : last < getD r 1 0 → encodeRecord types last i r rest ≡ refused 13 i 0
+    pub record-beyond : last < getD r 1 0 → encodeRecord types last i r rest ≡ notEncoded (Beyond i)
     unfolding encodeRecord
     record-beyond h = rw (g, lt-ltb last (getD r 1 0) h)
 
     module _ (h : getD r 1 0 ≤ last) where
-      pub record-miscounted : (getD r 3 0 ≡ countOf (getD types (getD r 1 0) []) → ⊥) → encodeRecord types last i r rest ≡ refused 5 i 0
+      pub record-miscounted : (getD r 3 0 ≡ countOf (getD types (getD r 1 0) []) → ⊥) → encodeRecord types last i r rest ≡ notEncoded (OperandCount i)
       unfolding encodeRecord
       record-miscounted e = rw (g, le-ltb last (getD r 1 0) h, ne-eqb _ _ e)
 
@@ -99,7 +100,7 @@ module _ (types : List (List ℕ)) (last : ℕ) (words : List ℕ) where
       let e : length (drop (20 * i) words) ≡ 0 = simp length-drop (omega arith) in
       rw (eq-eqb _ _ e)
 
-  pub from-cut : (f i : ℕ) → 20 * i < length words → length words < 20 * i + 20 → encodeFrom (suc f) types last words i ≡ refused 15 i 0
+  pub from-cut : (f i : ℕ) → 20 * i < length words → length words < 20 * i + 20 → encodeFrom (suc f) types last words i ≡ notEncoded (BadRecord i)
   unfolding encodeFrom
   from-cut f i h l =
       let e : length (drop (20 * i) words) ≡ 0 → ⊥ = λ q. omega (arith, length-drop (20 * i) words) in
@@ -145,7 +146,7 @@ pub data Appended (b : List ℕ) (rest : Encoded) (bs : List ℕ) : Type 0 where
 appended : (b : List ℕ) (rest : Encoded) (bs : List ℕ) → appendTo b rest ≡ encoded bs → Appended b rest bs
 unfolding appendTo
 appended b (encoded ms) bs e = behind ms refl (cc e)
-appended b (refused n p q) bs e = absurd (let z : _≡_ {A = ℕ} 0 1 = cc e in omega arith)
+appended b (notEncoded x) bs e = absurd (let z : _≡_ {A = ℕ} 0 1 = cc e in omega arith)
 
 pub data Operated (opcode : ℕ) (o : Operands) (rest : Encoded) (bs : List ℕ) : Type 0 where
   operated : (os : List ℕ) → o ≡ bytes os → Appended (opcode ∷ os) rest bs → Operated opcode o rest bs

@@ -9,3 +9,4 @@ pub mod RedecodeLaws
 pub mod LimitLaws
 pub mod OutcomeLaws
 pub mod SheetTables
+pub mod EncodeTrials

@@ -1,6 +1,6 @@
 -- The tables of every sheet that is read are good, so both round trips hold under any sheet. Assumes nothing.
 use mathlib.Core.Path.{_≡_}
-use mathlib.Core.List.{List}
+use mathlib.Core.List.{List, []}
 use Prim.Native.Nat.{ℕ, _*_, _/_}
 use native.Mathlib.Omega.{arith}
 use lib.ListN.{length}
@@ -12,7 +12,7 @@ use Rattle.spec_sheet.proofs.SheetLaws.{whole-sheet}
 use Rattle.spec_body.specs.Record.{join}
 use Rattle.spec_body.specs.Recode.{recoded}
 use Rattle.spec_body.specs.Operation.{decode, encode}
-use Rattle.spec_answers.specs.Outcome.Outcome.{result}
+use Rattle.answers.specs.Outcome.{produced}
 use Rattle.spec_body.proofs.OutcomeLaws as outcome
 
 pub good-sheet : (text : List ℕ) → outcome.GoodSheet text
@@ -24,14 +24,14 @@ good-sheet text sh at e =
     }
 
 -- "encoding the records of any body that decodes gives the body back"
-pub decode-encode : (text body words : List ℕ) (n : ℕ) → Bytes body → decode text body ≡ result words n → encode text words ≡ result body (length body)
+pub decode-encode : (text body words : List ℕ) (n : ℕ) → Bytes body → decode text body ≡ produced n words [] → encode text words ≡ produced (length body) body []
 decode-encode text body words n b e = outcome.decode-encode text (good-sheet text) body words n b e
 
 -- "decoding what was encoded gives the same opcodes, counts and operand bits, with offsets and lengths computed anew"
-pub encode-decode : (text : List ℕ) (sh : Sheet) (at : ℕ) (words bs : List ℕ) (n : ℕ) → sheetOf text ≡ sheet sh at → encode text words ≡ result bs n
-    → decode text bs ≡ result (join (recoded (typeRows (sh .opcodes)) words)) (length words / 20)
+pub encode-decode : (text : List ℕ) (sh : Sheet) (at : ℕ) (words bs : List ℕ) (n : ℕ) → sheetOf text ≡ sheet sh at → encode text words ≡ produced n bs []
+    → decode text bs ≡ produced (length words / 20) (join (recoded (typeRows (sh .opcodes)) words)) []
 encode-decode text sh at words bs n r e = outcome.encode-decode text (good-sheet text) sh at words bs n r e
 
 -- each record has 20 words
-pub decode-length : (text body words : List ℕ) (n : ℕ) → decode text body ≡ result words n → length words ≡ 20 * n
+pub decode-length : (text body words : List ℕ) (n : ℕ) → decode text body ≡ produced n words [] → length words ≡ 20 * n
 decode-length text body words n e = outcome.decode-length text (good-sheet text) body words n e

@@ -5,6 +5,9 @@ use Prim.Native.Nat.{ℕ, zero, suc, _+_, _-_, _*_, _/_, _%_, _^_}
 use lib.Dec.{eqb, leb, ltb}
 use lib.ListN.{length, take, drop, getD}
 use Rattle.lists.specs.Choice.{pick, both, either}
+use Rattle.answers.specs.declared.refusal.Refusal.{Refusal}
+use Rattle.answers.specs.declared.refusal.Refusal.the-variants.{BadOperand, Beyond, OperandCount, BadRecord}
+use Rattle.answers.specs.declared.refusal.OperandFault.the-variants.{Misfit}
 use Rattle.spec_numbers.specs.LittleEndian.{leBytes}
 use Rattle.spec_numbers.specs.TwosComplement.{extend8}
 use Rattle.spec_sheet.specs.Types.{widthOf, familyOf, stringFamily, addr8, double}
@@ -80,18 +83,18 @@ encodeOperands (c ∷ cs) words n =
     let rest = encodeOperands cs (drop 2 words) (n + 1) in
     pick (eqb c 0) (bytes []) (operandBytes (widthOf c) (encodeOperand c (getD words 0 0) (getD words 1 0)) rest n)
 
--- the bytes of records, or the first refusal: number, record and operand
+-- the bytes of records, or the first refusal, at a record's index
 pub data Encoded : Type 0 where
   encoded : List ℕ → Encoded
-  refused : ℕ → ℕ → ℕ → Encoded
+  notEncoded : Refusal → Encoded
 
 unfoldable pub appendTo : List ℕ → Encoded → Encoded
 appendTo b (encoded bs) = encoded (b ++ bs)
-appendTo b (refused n p q) = refused n p q
+appendTo b (notEncoded x) = notEncoded x
 
 unfoldable pub withOperands : ℕ → ℕ → Operands → Encoded → Encoded
 withOperands opcode i (bytes bs) rest = appendTo (opcode ∷ bs) rest
-withOperands opcode i (misfit q) rest = refused 15 i q
+withOperands opcode i (misfit q) rest = notEncoded (BadOperand Misfit i q)
 
 -- the record i, which is r, and those behind it: "by record 15 for its shape, 13, 5, then 15 by operand"
 unfoldable pub encodeRecord : List (List ℕ) → ℕ → ℕ → List ℕ → Encoded → Encoded
@@ -99,9 +102,9 @@ encodeRecord types last i r rest =
     let row = getD types (opcodeOf r) [] in
     let operands = withOperands (opcodeOf r) i (encodeOperands row (pairsOf r) 1) rest in
     pick (goodShape r)
-    (pick (ltb last (opcodeOf r)) (refused 13 i 0)
-    (pick (eqb (operandsOf r) (countOf row)) operands (refused 5 i 0)))
-    (refused 15 i 0)
+    (pick (ltb last (opcodeOf r)) (notEncoded (Beyond i))
+    (pick (eqb (operandsOf r) (countOf row)) operands (notEncoded (OperandCount i))))
+    (notEncoded (BadRecord i))
 
 -- the records from index i on, at most f of them; "a slice that ends inside a record is 15 at that index"
 unfoldable pub encodeFrom : ℕ → List (List ℕ) → ℕ → List ℕ → ℕ → Encoded
@@ -110,7 +113,7 @@ encodeFrom (suc f) types last words i =
     let behind = drop (recordWords * i) words in
     let rest = encodeFrom f types last words (i + 1) in
     let this = encodeRecord types last i (take recordWords behind) rest in
-    pick (eqb (length behind) 0) (encoded []) (pick (ltb (length behind) recordWords) (refused 15 i 0) this)
+    pick (eqb (length behind) 0) (encoded []) (pick (ltb (length behind) recordWords) (notEncoded (BadRecord i)) this)
 
 -- all records of a slice: each whole one has 20 words, and one more may be cut
 abbrev pub encodeRecords : List (List ℕ) → ℕ → List ℕ → Encoded

@@ -15,8 +15,8 @@ use Rattle.spec_strings.specs.Utf8.{afterLead, afterNext, step, utf8From}
 use Rattle.spec_strings.specs.Table.{tooLarge, wellFormed, faultFrom, lookupFrom}
 use Rattle.spec_strings.specs.Escape.{meant, unescape}
 use Rattle.spec_sheet.specs.Row.{sumBy}
-use Rattle.spec_answers.specs.Outcome.{Outcome, measured}
-use Rattle.spec_answers.specs.Outcome.Outcome.{result, refusedWith}
+use Rattle.answers.specs.Outcome.{measured}
+use Rattle.answers.proofs.Shown.{room, shown}
 use Rattle.spec_inputs.specs.Inputs.{unlessFault, underTable, underContext, underInputs}
 use Rattle.spec_hasm.specs.Text.{onto, linesOf, isWhite, solidLength, trim}
 use Rattle.spec_hasm.specs.Comment.{isQuote, isComment, outside, inside}
@@ -24,7 +24,7 @@ use Rattle.spec_hasm.specs.Split.{splitOutside, splitInside, tokensFrom,
 use Rattle.spec_hasm.specs.Line.{isSkipped, isLabel, hasHexPrefix, behindHexMark, isOffset, behindOffset, statementIn}
 use Rattle.spec_hasm.specs.Token as token
 use Rattle.spec_hasm.specs.Token.{numberOr, foundOr, registerValue, isQuoted, stringValue, offsetOr, targetIn, isNear, distanceTo, tokenValue}
-use Rattle.spec_hasm.specs.Assemble.{isTextByte, unlessBadLine, onStatement, codesFrom, onName, unlessBadName, foundIn, holding, labelsFrom, unlessFound, labelOffset, prepend, onValue, operandsFrom, behind, onOperands, bytesFrom, assembleCodes, assembleText}
+use Rattle.spec_hasm.specs.Assemble.{isTextByte, unlessBadLine, onStatement, programFrom, onName, unlessBadName, foundIn, holding, labelsFrom, unlessFound, labelOffset, prepend, onValue, operandsFrom, behind, onOperands, bytesFrom, assembleCodes, assembleText}
 use Rattle.spec_hasm.specs.Operation.{assembleOutcome, assemble}
 
 -- the sheet and strings of document 01's job
@@ -38,27 +38,26 @@ bytes = 97 ∷ 44 ∷ 98 ∷ 195 ∷ 169 ∷ []
 ends : List ℕ
 ends = 3 ∷ 5 ∷ []
 
--- the bytes of a body behind a 0, or number, line and operand of a refusal behind a 1
-shown : Outcome → List ℕ
-shown (result t n) = 0 ∷ t
-shown (refusedWith number line operand) = 1 ∷ number ∷ line ∷ operand ∷ []
-
 -- a text under that sheet, with two label entries lent
-unfoldable assembling : List ℕ → List ℕ
-unfolding shown sheet bytes ends run all same opens text leBytes digitValue digitsValue unsignedValue parseU32In minus negated parseI32 bitsOfWhole withSign wholeDigits readWhole readHex16 readDouble infinityText hexMark typeNames typeCodeIn typeCode widthOf familyOf kindOf after literalAt isNameByte numberRead numberAt keyedAt mayBeName nameAt typeAt withType typesFrom typesAt headAt lineTypes lineHead lineAt typeRow infoRow fill hasName findName isMissing mayFollow accepted onLine opsFrom sheetOps sheetAt endsAt sheetOf above afterLead afterNext step utf8From tooLarge wellFormed faultFrom lookupFrom meant unescape sumBy unlessFault underTable underContext underInputs onto linesOf isWhite solidLength trim isQuote isComment outside inside splitOutside splitInside tokensFrom tokens instructionName instructionOperands isSkipped isLabel hasHexPrefix behindHexMark isOffset behindOffset statementIn numberOr foundOr registerValue token.unsignedValue isQuoted stringValue offsetOr targetIn isNear distanceTo tokenValue isTextByte unlessBadLine onStatement codesFrom onName unlessBadName foundIn holding labelsFrom unlessFound labelOffset prepend onValue operandsFrom behind onOperands bytesFrom assembleCodes assembleText assembleOutcome assemble measured
-assembling t = shown (assemble sheet bytes ends t 2)
+unfoldable assemblingUnder : List ℕ → List ℕ → List ℕ
+unfolding shown sheet bytes ends run all same opens text leBytes digitValue digitsValue unsignedValue parseU32In minus negated parseI32 bitsOfWhole withSign wholeDigits readWhole readHex16 readDouble infinityText hexMark typeNames typeCodeIn typeCode widthOf familyOf kindOf after literalAt isNameByte numberRead numberAt keyedAt mayBeName nameAt typeAt withType typesFrom typesAt headAt lineTypes lineHead lineAt typeRow infoRow fill hasName findName isMissing mayFollow accepted onLine opsFrom sheetOps sheetAt endsAt sheetOf above afterLead afterNext step utf8From tooLarge wellFormed faultFrom lookupFrom meant unescape sumBy unlessFault underTable underContext underInputs onto linesOf isWhite solidLength trim isQuote isComment outside inside splitOutside splitInside tokensFrom tokens instructionName instructionOperands isSkipped isLabel hasHexPrefix behindHexMark isOffset behindOffset statementIn numberOr foundOr registerValue token.unsignedValue isQuoted stringValue offsetOr targetIn isNear distanceTo tokenValue isTextByte unlessBadLine onStatement programFrom onName unlessBadName foundIn holding labelsFrom unlessFound labelOffset prepend onValue operandsFrom behind onOperands bytesFrom assembleCodes assembleText assembleOutcome assemble measured
+assemblingUnder names t = shown (assemble names bytes ends t) (room 1000 2)
 
-empty-text : assembling [] ≡ 0 ∷ []
+unfoldable assembling : List ℕ → List ℕ
+unfolding assemblingUnder sheet
+assembling t = assemblingUnder sheet t
+
+empty-text : assembling [] ≡ 0 ∷ 0 ∷ []
 unfolding assembling
 empty-text = refl
 
 -- "`LoadByte r256, 7`: 00 00 07"
-register-256 : assembling (text "LoadByte r256, 7") ≡ 0 ∷ 0 ∷ 0 ∷ 7 ∷ []
+register-256 : assembling (text "LoadByte r256, 7") ≡ 0 ∷ 3 ∷ 0 ∷ 0 ∷ 7 ∷ []
 unfolding assembling text
 register-256 = refl
 
 -- "`Jmp L127` alone: 01 7F; `Jmp L128`: 8"
-jump-127 : assembling (text "Jmp L127") ≡ 0 ∷ 1 ∷ 127 ∷ []
+jump-127 : assembling (text "Jmp L127") ≡ 0 ∷ 2 ∷ 1 ∷ 127 ∷ []
 unfolding assembling text
 jump-127 = refl
 
@@ -67,7 +66,7 @@ unfolding assembling text
 jump-128 = refl
 
 -- "`Ret r+1`: 04 01; `Ret r-1`: 6"
-register-plus : assembling (text "Ret r+1") ≡ 0 ∷ 4 ∷ 1 ∷ []
+register-plus : assembling (text "Ret r+1") ≡ 0 ∷ 2 ∷ 4 ∷ 1 ∷ []
 unfolding assembling text
 register-plus = refl
 
@@ -81,7 +80,7 @@ unfolding assembling text
 unknown-text = refl
 
 -- "`Ret r1,`: accepted; `Ret r1,,`: 5"
-last-comma : assembling (text "Ret r1,") ≡ 0 ∷ 4 ∷ 1 ∷ []
+last-comma : assembling (text "Ret r1,") ≡ 0 ∷ 2 ∷ 4 ∷ 1 ∷ []
 unfolding assembling text
 last-comma = refl
 
@@ -95,21 +94,21 @@ unfolding assembling text
 name-first = refl
 
 -- document 01's listing gives the job's body
-listing-back : assembling (text "0000  LoadByte r1, 7\n0003  Jmp L9\nL5:\n0005  LoadText r1, \"a,b\"\nL9:\n0009  Ret r1\n") ≡ 0 ∷ 0 ∷ 1 ∷ 7 ∷ 1 ∷ 6 ∷ 2 ∷ 1 ∷ 0 ∷ 0 ∷ 4 ∷ 1 ∷ []
+listing-back : assembling (text "0000  LoadByte r1, 7\n0003  Jmp L9\nL5:\n0005  LoadText r1, \"a,b\"\nL9:\n0009  Ret r1\n") ≡ 0 ∷ 11 ∷ 0 ∷ 1 ∷ 7 ∷ 1 ∷ 6 ∷ 2 ∷ 1 ∷ 0 ∷ 0 ∷ 4 ∷ 1 ∷ []
 unfolding assembling text
 listing-back = refl
 
 -- "binding `L12` to its label line" is a mistake: the offset counts
-label-by-offset : assembling (text "Jmp L2\nL2:\nL9:\nRet r1") ≡ 0 ∷ 1 ∷ 2 ∷ 4 ∷ 1 ∷ []
+label-by-offset : assembling (text "Jmp L2\nL2:\nL9:\nRet r1") ≡ 0 ∷ 4 ∷ 1 ∷ 2 ∷ 4 ∷ 1 ∷ []
 unfolding assembling text
 label-by-offset = refl
 
-label-elsewhere : assembling (text "Jmp L9\nL9:\nRet r1") ≡ 0 ∷ 1 ∷ 9 ∷ 4 ∷ 1 ∷ []
+label-elsewhere : assembling (text "Jmp L9\nL9:\nRet r1") ≡ 0 ∷ 4 ∷ 1 ∷ 9 ∷ 4 ∷ 1 ∷ []
 unfolding assembling text
 label-elsewhere = refl
 
 -- `L` alone is looked up, and of two the last counts; an entry each, and no more are needed
-label-alone : assembling (text "L:\nJmp L\nL:\nRet r1") ≡ 0 ∷ 1 ∷ 2 ∷ 4 ∷ 1 ∷ []
+label-alone : assembling (text "L:\nJmp L\nL:\nRet r1") ≡ 0 ∷ 4 ∷ 1 ∷ 2 ∷ 4 ∷ 1 ∷ []
 unfolding assembling text
 label-alone = refl
 
@@ -122,7 +121,7 @@ unfolding assembling text
 labels-three = refl
 
 -- a comment outside of quotes, CR LF, a banner, an offset in front
-comment-cut : assembling (text "Ret r1 // Bad\r\nfunction 3:\r\n0x00Ab \t Ret r2") ≡ 0 ∷ 4 ∷ 1 ∷ 4 ∷ 2 ∷ []
+comment-cut : assembling (text "Ret r1 // Bad\r\nfunction 3:\r\n0x00Ab \t Ret r2") ≡ 0 ∷ 4 ∷ 4 ∷ 1 ∷ 4 ∷ 2 ∷ []
 unfolding assembling text
 comment-cut = refl
 
@@ -141,7 +140,16 @@ open-quote : assembling (text "LoadText r1, \"a") ≡ 1 ∷ 9 ∷ 1 ∷ 2 ∷ []
 unfolding assembling text
 open-quote = refl
 
--- "stripping `Add` as an offset" is a mistake: no sheet here has it, so that `Bad` is one
-hex-word : assembling (text "Bad Ret r1") ≡ 0 ∷ 4 ∷ 1 ∷ []
+-- "stripping `Add` as an offset" is a mistake: this sheet has no `Bad`, so that it is an offset
+hex-word : assembling (text "Bad Ret r1") ≡ 0 ∷ 2 ∷ 4 ∷ 1 ∷ []
 unfolding assembling text
 hex-word = refl
+
+-- and under a sheet that has it, `Add` stands
+added-name : assemblingUnder (text "version=1\ncount=2\nop=0 name=Add jump=0 types=Reg8\nop=1 name=Ret jump=0 types=Reg8\n") (text "Add r1\n0a Add r2\nAdd Ret") ≡ 1 ∷ 6 ∷ 3 ∷ 1 ∷ []
+unfolding assemblingUnder text
+added-name = refl
+
+added-twice : assemblingUnder (text "version=1\ncount=2\nop=0 name=Add jump=0 types=Reg8\nop=1 name=Ret jump=0 types=Reg8\n") (text "Add r1\n0a Add r2") ≡ 0 ∷ 4 ∷ 0 ∷ 1 ∷ 0 ∷ 2 ∷ []
+unfolding assemblingUnder text
+added-twice = refl

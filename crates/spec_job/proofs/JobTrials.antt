@@ -36,7 +36,8 @@ use Rattle.spec_job.specs.Hex.{withByte, hexFrom}
 use Rattle.spec_job.specs.Table.{onHex, keyedHexAt, stringsFrom, tableAt}
 use Rattle.spec_job.specs.Job.{withTable, withSheet, onInputs, withBody, withText, readList, readAssemble, readWord, readJob}
 use Rattle.spec_job.specs.Printed.{listUnder, assembleUnder, jobRun, refusedText, hexOf, bodyText, formOf, printedOf, printed}
-use Rattle.spec_answers.specs.Outcome.{measured}
+use Rattle.answers.specs.Refusals.{faultNumber, refusalReport}
+use Rattle.answers.specs.Outcome.{measured, sizes, exceeds, isShort}
 
 -- a job with document 01's sheet and strings, what it asks for and what stands behind the strings
 unfoldable jobOf : List ℕ → List ℕ → List ℕ
@@ -47,7 +48,7 @@ abbrev job : List ℕ → List ℕ
 job last = jobOf (text "job=list\n") last
 
 unfoldable prints : List ℕ → List ℕ
-unfolding printed withByte hexFrom onHex keyedHexAt stringsFrom tableAt withTable withSheet onInputs withBody withText readList readAssemble readWord readJob listUnder assembleUnder jobRun refusedText hexOf bodyText formOf printedOf hexUpper hexUpper4 underTable unlessFault listOutcome tooLarge wellFormed faultFrom afterLead afterNext step utf8From leadBits bitsAfter charsFrom unicode escape escapeAll escapeText quoted decodeFrom prepend pairs sumBy le extend8 digit digits padded decimal signedDecimal hexLower hexLower4 widthOf familyOf kindOf sheetAt sheetOps opsFrom onLine accepted mayFollow isMissing findName hasName fill typeRow infoRow lineAt lineHead lineTypes headAt typesAt typesFrom withType typeAt nameAt mayBeName keyedAt numberAt numberRead isNameByte literalAt after typeCode typeCodeIn typeNames unsignedValue digitsValue digitValue run same opens text above nameOf isJump distanceOf targetOf stringText operandText operandTexts offsetText instructionText endsFlow targets labelsOf labelOffsets among different labelLine labelText instructionLine listedText longLine listEntries unlessLong listDecoded append all lookupFrom meant unescape leBytes parseU32In hasmText.onto hasmText.linesOf hasmText.isWhite hasmText.solidLength hasmText.trim isQuote isComment outside inside splitOutside splitInside tokensFrom tokens instructionName instructionOperands isSkipped isLabel hasHexPrefix behindHexMark isOffset behindOffset statementIn token.numberOr token.foundOr token.registerValue token.unsignedValue token.isQuoted token.stringValue token.offsetOr token.targetIn token.isNear token.distanceTo token.tokenValue hasm.isTextByte hasm.unlessBadLine hasm.onStatement hasm.codesFrom hasm.onName hasm.unlessBadName hasm.foundIn hasm.holding hasm.labelsFrom hasm.unlessFound hasm.labelOffset hasm.prepend hasm.onValue hasm.operandsFrom hasm.behind hasm.onOperands hasm.bytesFrom hasm.assembleCodes hasm.assembleText assembleOutcome measured
+unfolding printed withByte hexFrom onHex keyedHexAt stringsFrom tableAt withTable withSheet onInputs withBody withText readList readAssemble readWord readJob listUnder assembleUnder jobRun refusedText hexOf bodyText formOf printedOf hexUpper hexUpper4 underTable unlessFault listOutcome tooLarge wellFormed faultFrom afterLead afterNext step utf8From leadBits bitsAfter charsFrom unicode escape escapeAll escapeText quoted decodeFrom prepend pairs sumBy le extend8 digit digits padded decimal signedDecimal hexLower hexLower4 widthOf familyOf kindOf sheetAt sheetOps opsFrom onLine accepted mayFollow isMissing findName hasName fill typeRow infoRow lineAt lineHead lineTypes headAt typesAt typesFrom withType typeAt nameAt mayBeName keyedAt numberAt numberRead isNameByte literalAt after typeCode typeCodeIn typeNames unsignedValue digitsValue digitValue run same opens text above nameOf isJump distanceOf targetOf stringText operandText operandTexts offsetText instructionText endsFlow targets labelsOf labelOffsets among different labelLine labelText instructionLine listedText longLine listEntries unlessLong listDecoded append all lookupFrom meant unescape leBytes parseU32In hasmText.onto hasmText.linesOf hasmText.isWhite hasmText.solidLength hasmText.trim isQuote isComment outside inside splitOutside splitInside tokensFrom tokens instructionName instructionOperands isSkipped isLabel hasHexPrefix behindHexMark isOffset behindOffset statementIn token.numberOr token.foundOr token.registerValue token.unsignedValue token.isQuoted token.stringValue token.offsetOr token.targetIn token.isNear token.distanceTo token.tokenValue hasm.isTextByte hasm.unlessBadLine hasm.onStatement hasm.programFrom hasm.onName hasm.unlessBadName hasm.foundIn hasm.holding hasm.labelsFrom hasm.unlessFound hasm.labelOffset hasm.prepend hasm.onValue hasm.operandsFrom hasm.behind hasm.onOperands hasm.bytesFrom hasm.assembleCodes hasm.assembleText assembleOutcome measured faultNumber refusalReport sizes exceeds isShort
 prints s = printed s
 
 -- document 01's job

@@ -1,5 +1,4 @@
 pub mod HexLaws
 pub mod TableLaws
 pub mod JobLaws
-pub mod NumberLaws
 pub mod JobTrials

@@ -20,8 +20,8 @@ use Rattle.spec_sheet.specs.Row.{sumBy}
 use Rattle.spec_body.specs.Record.{pairs}
 use Rattle.spec_body.specs.Decode.{prepend, decodeFrom}
 use Rattle.spec_body.specs.Function.{inArea}
-use Rattle.spec_answers.specs.Outcome.{Outcome, measured}
-use Rattle.spec_answers.specs.Outcome.Outcome.{result, refusedWith}
+use Rattle.answers.specs.Outcome.{measured}
+use Rattle.answers.proofs.Shown.{room, shown}
 use Rattle.spec_listing.specs.Options.{Options}
 use Rattle.spec_inputs.specs.Context.{nameOf, isJump}
 use Rattle.spec_listing.specs.Operand.{distanceOf, targetOf, stringText, operandText, operandTexts}
@@ -49,34 +49,30 @@ body = 0 ∷ 1 ∷ 7 ∷ 1 ∷ 6 ∷ 2 ∷ 1 ∷ 0 ∷ 0 ∷ 4 ∷ 1 ∷ []
 abbrev shows : Bool → Bool → Bool → Options
 shows offsets labels texts = record { showOffsets = offsets; showLabels = labels; resolveStrings = texts }
 
-textOf : Outcome → List ℕ
-textOf (result t n) = t
-textOf (refusedWith number place operand) = number ∷ place ∷ operand ∷ []
-
 -- what listing the body, and a module of one function with a name that is escaped, evaluates to
 unfoldable listing : Options → ℕ → List ℕ
-unfolding textOf bytes ends body list listModule hexUpper hexUpper4 underInputs underTable unlessFault underContext listOutcome tooLarge wellFormed faultFrom afterLead afterNext step utf8From leadBits bitsAfter charsFrom unicode escape escapeAll escapeText quoted decodeFrom prepend pairs sumBy le extend8 digit digits padded decimal signedDecimal hexLower hexLower4 widthOf familyOf kindOf sheetOf endsAt sheetAt sheetOps opsFrom onLine accepted mayFollow isMissing findName hasName fill typeRow infoRow lineAt lineHead lineTypes headAt typesAt typesFrom withType typeAt nameAt mayBeName keyedAt numberAt numberRead isNameByte literalAt after typeCode typeCodeIn typeNames unsignedValue digitsValue digitValue run same opens text above sheet inArea nameOf isJump distanceOf targetOf stringText operandText operandTexts offsetText instructionText endsFlow targets labelsOf labelOffsets among different labelLine labelText instructionLine listedText longLine listEntries unlessLong listDecoded append functionName banner listFunctionIn listFunctionsFrom measured
-listing o lent = textOf (list o sheet bytes ends body lent)
+unfolding shown bytes ends body list listModule hexUpper hexUpper4 underInputs underTable unlessFault underContext listOutcome tooLarge wellFormed faultFrom afterLead afterNext step utf8From leadBits bitsAfter charsFrom unicode escape escapeAll escapeText quoted decodeFrom prepend pairs sumBy le extend8 digit digits padded decimal signedDecimal hexLower hexLower4 widthOf familyOf kindOf sheetOf endsAt sheetAt sheetOps opsFrom onLine accepted mayFollow isMissing findName hasName fill typeRow infoRow lineAt lineHead lineTypes headAt typesAt typesFrom withType typeAt nameAt mayBeName keyedAt numberAt numberRead isNameByte literalAt after typeCode typeCodeIn typeNames unsignedValue digitsValue digitValue run same opens text above sheet inArea nameOf isJump distanceOf targetOf stringText operandText operandTexts offsetText instructionText endsFlow targets labelsOf labelOffsets among different labelLine labelText instructionLine listedText longLine listEntries unlessLong listDecoded append functionName banner listFunctionIn listFunctionsFrom measured
+listing o lent = shown (list o sheet bytes ends body) (room 1000 lent)
 
 unfoldable moduleListing : Options → ℕ → List ℕ
-unfolding textOf bytes ends body list listModule hexUpper hexUpper4 underInputs underTable unlessFault underContext listOutcome tooLarge wellFormed faultFrom afterLead afterNext step utf8From leadBits bitsAfter charsFrom unicode escape escapeAll escapeText quoted decodeFrom prepend pairs sumBy le extend8 digit digits padded decimal signedDecimal hexLower hexLower4 widthOf familyOf kindOf sheetOf endsAt sheetAt sheetOps opsFrom onLine accepted mayFollow isMissing findName hasName fill typeRow infoRow lineAt lineHead lineTypes headAt typesAt typesFrom withType typeAt nameAt mayBeName keyedAt numberAt numberRead isNameByte literalAt after typeCode typeCodeIn typeNames unsignedValue digitsValue digitValue run same opens text above sheet inArea nameOf isJump distanceOf targetOf stringText operandText operandTexts offsetText instructionText endsFlow targets labelsOf labelOffsets among different labelLine labelText instructionLine listedText longLine listEntries unlessLong listDecoded append functionName banner listFunctionIn listFunctionsFrom measured
-moduleListing o lent = textOf (listModule o sheet bytes ends (record { functions = 20 ∷ 2 ∷ 1 ∷ []; bytes = 0 ∷ 4 ∷ 1 ∷ []; base = 19 }) lent)
+unfolding shown bytes ends body list listModule hexUpper hexUpper4 underInputs underTable unlessFault underContext listOutcome tooLarge wellFormed faultFrom afterLead afterNext step utf8From leadBits bitsAfter charsFrom unicode escape escapeAll escapeText quoted decodeFrom prepend pairs sumBy le extend8 digit digits padded decimal signedDecimal hexLower hexLower4 widthOf familyOf kindOf sheetOf endsAt sheetAt sheetOps opsFrom onLine accepted mayFollow isMissing findName hasName fill typeRow infoRow lineAt lineHead lineTypes headAt typesAt typesFrom withType typeAt nameAt mayBeName keyedAt numberAt numberRead isNameByte literalAt after typeCode typeCodeIn typeNames unsignedValue digitsValue digitValue run same opens text above sheet inArea nameOf isJump distanceOf targetOf stringText operandText operandTexts offsetText instructionText endsFlow targets labelsOf labelOffsets among different labelLine labelText instructionLine listedText longLine listEntries unlessLong listDecoded append functionName banner listFunctionIn listFunctionsFrom measured
+moduleListing o lent = shown (listModule o sheet bytes ends (record { functions = 20 ∷ 2 ∷ 1 ∷ []; bytes = 0 ∷ 4 ∷ 1 ∷ []; base = 19 })) (room 1000 lent)
 
 -- document 01's listing, with one label entry for each of its three label offsets
-listed-job : listing (shows true true true) 3 ≡ text "0000  LoadByte r1, 7\n0003  Jmp L9\nL5:\n0005  LoadText r1, \"a,b\"\nL9:\n0009  Ret r1\n"
+listed-job : listing (shows true true true) 3 ≡ 0 ∷ 80 ∷ text "0000  LoadByte r1, 7\n0003  Jmp L9\nL5:\n0005  LoadText r1, \"a,b\"\nL9:\n0009  Ret r1\n"
 unfolding listing text
 listed-job = refl
 
 -- with two entries it is 19: the third offset is the end of the body, behind Ret
-entries-needed : listing (shows true true true) 2 ≡ 19 ∷ 0 ∷ 0 ∷ []
+entries-needed : listing (shows true true true) 2 ≡ 1 ∷ 19 ∷ 0 ∷ 0 ∷ []
 unfolding listing
 entries-needed = refl
 
 -- nothing shown but names and operands, and no entry needed
-bare-job : listing (shows false false false) 0 ≡ text "LoadByte r1, 7\nJmp L9\nLoadText r1, 0\nRet r1\n"
+bare-job : listing (shows false false false) 0 ≡ 0 ∷ 44 ∷ text "LoadByte r1, 7\nJmp L9\nLoadText r1, 0\nRet r1\n"
 unfolding listing text
 bare-job = refl
 
-listed-module : moduleListing (shows true true true) 1 ≡ text "function 0 (\"\\u00E9\"):\n  0000  Ret r1\n\n"
+listed-module : moduleListing (shows true true true) 1 ≡ 0 ∷ 39 ∷ text "function 0 (\"\\u00E9\"):\n  0000  Ret r1\n\n"
 unfolding moduleListing text
 listed-module = refl

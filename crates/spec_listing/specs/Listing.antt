@@ -9,8 +9,10 @@ use Rattle.lists.specs.Found.{Found}
 use Rattle.lists.specs.Found.Found.{found, missing}
 use Rattle.spec_numbers.specs.Print.{decimal}
 use Rattle.limits.specs.Limits.{lineLimit}
+use Rattle.answers.specs.declared.refusal.Refusal.{Refusal}
+use Rattle.answers.specs.declared.refusal.Refusal.the-variants.{LongLine}
 use Rattle.spec_body.specs.Decode.{Decoded}
-use Rattle.spec_body.specs.Decode.Decoded.{decoded, beyond, cut}
+use Rattle.spec_body.specs.Decode.Decoded.{decoded, notDecoded}
 use Rattle.spec_inputs.specs.Context.{Context}
 use Rattle.spec_listing.specs.Options.{Options}
 use Rattle.spec_listing.specs.Line.{instructionText}
@@ -44,25 +46,24 @@ longLine o e indent (r ∷ rs) =
 -- a listing before its length and the lent space are looked at: its text and the label entries it needs, or a refusal
 pub data Listed : Type 0 where
   listed : List ℕ → ℕ → Listed
-  refused : ℕ → ℕ → ℕ → Listed
+  notListed : Refusal → Listed
 
 -- "Listing needs one for each different offset of `collect_label_offsets`, none with labels off"
 unfoldable pub listEntries : Options → Context → List (List ℕ) → ℕ
 listEntries o e rs = pick (o .showLabels) (different (labelOffsets e rs)) 0
 
 unfoldable pub unlessLong : Found → Listed → Listed
-unlessLong (found at) rest = refused 3 at 0
+unlessLong (found at) rest = notListed (LongLine at)
 unlessLong missing rest = rest
 
 -- "Listing: decoding, then 3"
 unfoldable pub listDecoded : Options → Context → List ℕ → Decoded → Listed
 listDecoded o e indent (decoded rs) =
     unlessLong (longLine o e indent rs) (listed (listedText o e (labelOffsets e rs) indent rs) (listEntries o e rs))
-listDecoded o e indent (beyond at) = refused 13 at 0
-listDecoded o e indent (cut at) = refused 14 at 0
+listDecoded o e indent (notDecoded x) = notListed x
 
 -- one listing behind another: label entries are used for one at a time
 unfoldable pub append : Listed → Listed → Listed
-append (refused n p q) next = refused n p q
+append (notListed x) next = notListed x
 append (listed t k) (listed u m) = listed (t ++ u) (max k m)
-append (listed t k) (refused n p q) = refused n p q
+append (listed t k) (notListed x) = notListed x

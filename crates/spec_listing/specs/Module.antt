@@ -5,6 +5,7 @@ use lib.Dec.{eqb, ltb}
 use lib.ListN.{length}
 use Rattle.lists.specs.Choice.{pick}
 use Rattle.lists.specs.Text.{text}
+use Rattle.answers.specs.declared.refusal.Refusal.the-variants.{LongLine, TooLarge, NoFunction}
 use Rattle.spec_numbers.specs.Print.{decimal}
 use Rattle.spec_strings.specs.Escape.{quoted}
 use Rattle.spec_body.specs.Decode.{decodeBody}
@@ -13,7 +14,7 @@ use Rattle.limits.specs.Limits.{bodyLimit, lineLimit}
 use Rattle.spec_inputs.specs.Context.{Context, hasText, textAt}
 use Rattle.spec_listing.specs.Options.{Options}
 use Rattle.spec_listing.specs.Listing.{Listed, listDecoded, append}
-use Rattle.spec_listing.specs.Listing.Listed.{listed, refused}
+use Rattle.spec_listing.specs.Listing.Listed.{listed, notListed}
 
 -- the functions of an area: u32 triples, the area's bytes, and the offset that the area's first byte has
 pub record Area : Type 0 where
@@ -38,9 +39,9 @@ listFunctionIn o e last a id =
     let body = listDecoded o e (text "  ") (decodeBody (e .types) last (functionBody (a .functions) (a .bytes) (a .base) id)) in
     let whole = append (append (listed (title ++ text "\n") 0) body) (listed (text "\n") 0) in
     pick (inArea (a .functions) (a .bytes) (a .base) id)
-    (pick (ltb bodyLimit (functionSize (a .functions) id)) (refused 18 0 0)
-    (pick (ltb lineLimit (length title)) (refused 3 id 0) whole))
-    (refused 20 id 0)
+    (pick (ltb bodyLimit (functionSize (a .functions) id)) (notListed TooLarge)
+    (pick (ltb lineLimit (length title)) (notListed (LongLine id)) whole))
+    (notListed (NoFunction id))
 
 -- "Functions are taken by index": n of them from `id` on
 unfoldable pub listFunctionsFrom : ℕ → Options → Context → ℕ → Area → ℕ → Listed

@@ -1,7 +1,7 @@
 -- The circle: the default listing of a body, assembled under the same sheet and strings, is the body. Assumes nothing.
 use mathlib.Core.Path.{_≡_, refl, ap, sym, _∙_}
 use mathlib.Core.Bool.{true, false}
-use mathlib.Core.List.{List, []}
+use mathlib.Core.List.{List, [], _∷_}
 use Prim.Native.Nat.{ℕ, _≤_}
 use native.Mathlib.Omega.{arith}
 use lib.Dec.{leb}
@@ -18,7 +18,6 @@ use Rattle.spec_strings.specs.Table.{tooLarge, fault}
 use Rattle.spec_body.specs.Decode.{decodeBody}
 use Rattle.spec_body.specs.Decode.Decoded.{decoded}
 use Rattle.limits.specs.Limits.{bodyLimit, textLimit}
-use Rattle.spec_answers.specs.Outcome.Outcome.{result}
 use Rattle.spec_body.proofs.DecodeLaws.{Decoding, body-stands}
 use Rattle.spec_body.proofs.SheetTables.{good-sheet}
 use Rattle.spec_inputs.specs.Context.{Context, nameOf}
@@ -31,14 +30,13 @@ use Rattle.spec_listing.proofs.LineNames.{ListedName, listed-name}
 use Rattle.spec_hasm.specs.Text.{linesOf}
 use Rattle.spec_hasm.specs.Assemble.{Code, codesFrom, assembleCodes, assembleText, assembleEntries}
 use Rattle.spec_hasm.specs.Assemble.Assembled.{assembled}
-use Rattle.spec_hasm.specs.Assemble.Label.{none}
 use Rattle.spec_hasm.specs.Operation.{assembleOutcome, assemble}
 use Rattle.theorems.specs.Premises.{default, placesOf, roundTrips}
 use Rattle.theorems.proofs.PremiseLaws.{places-most}
 use Rattle.theorems.proofs.ListedLines.{listedLines, listing-lines, lines-good}
 use Rattle.theorems.proofs.Codes.{Back, codes-back}
 use Rattle.theorems.proofs.Entries.{labelled-most, entries-labelled}
-use Rattle.spec_answers.specs.Outcome.{measured}
+use Rattle.answers.specs.Outcome.{produced, measured}
 
 -- what an accepted listing is
 record Accepted (f : Found) (u t : List ℕ) (k n : ℕ) : Type 0 where
@@ -56,10 +54,10 @@ codes-assembled : (e : Context) (s : List ℕ) (cs : List Code) → Back e s 0 c
 unfolding assembleCodes
 codes-assembled e s cs b = b .names _ ∙ b .bytes _
 
--- an assembled body within the limits, where entries enough are lent
-outcome-result : (lent entries : ℕ) (bs : List ℕ) → length bs ≤ bodyLimit → entries ≤ lent → assembleOutcome lent entries (assembled bs) ≡ result bs (length bs)
+-- an assembled body within the limits
+outcome-result : (entries : ℕ) (bs : List ℕ) → length bs ≤ bodyLimit → assembleOutcome entries (assembled bs) ≡ produced (length bs) bs (entries ∷ [])
 unfolding assembleOutcome measured
-outcome-result lent entries bs h l = rw (le-ltb bodyLimit (length bs) h, le-ltb lent entries l)
+outcome-result entries bs h = rw (le-ltb bodyLimit (length bs) h)
 
 module _ (sheetText : List ℕ) (sh : Sheet) (c : ℕ) (read : sheetOf sheetText ≡ sheet sh c) (bytes ends body : List ℕ) (b : Bytes body) (short : length body ≤ bodyLimit)
     (rs : List (List ℕ)) (d : decodeBody (typeRows (sh .opcodes)) (largest (sh .opcodes)) body ≡ decoded rs) where
@@ -81,11 +79,11 @@ module _ (sheetText : List ℕ) (sh : Sheet) (c : ℕ) (read : sheetOf sheetText
     abbrev lines : List (List ℕ)
     lines = listedLines context (labelOffsets context rs) rs
 
-    back : Back context body 0 (codesFrom context 1 none lines)
+    back : Back context body 0 (codesFrom context 1 [] lines)
     unfolding roundTrips
     back =
         let g = good-sheet sheetText sh c read in
-        codes-back sheetText sh c (whole-sheet sheetText sh c read) bytes ends body b short (largest (sh .opcodes)) (g .small) (g .rows) (placesOf rs (length body)) low (labelOffsets context rs) stands good 1 none
+        codes-back sheetText sh c (whole-sheet sheetText sh c read) bytes ends body b short (largest (sh .opcodes)) (g .small) (g .rows) (placesOf rs (length body)) low (labelOffsets context rs) stands good 1 []
 
     module _ (t : List ℕ) (n : ℕ) (ok : listDecoded default context [] (decoded rs) ≡ listed t n) where
       is-accepted : Accepted (longLine default context [] rs) (listing.listedText default context (labelOffsets context rs) [] rs) t (listing.listEntries default context rs) n
@@ -100,8 +98,8 @@ module _ (sheetText : List ℕ) (sh : Sheet) (c : ℕ) (read : sheetOf sheetText
       unfolding assembleText
       text-assembled =
           rw its-lines
-          (lines-good context names (labelOffsets context rs) (assembleCodes context (codesFrom context 1 none lines)) rs (is-accepted .short) 1
-          ∙ codes-assembled context body (codesFrom context 1 none lines) back)
+          (lines-good context names (labelOffsets context rs) (assembleCodes context (codesFrom context 1 [] lines)) rs (is-accepted .short) 1
+          ∙ codes-assembled context body (codesFrom context 1 [] lines) back)
 
       -- it needs no more label entries than the listing did
       pub entries-most : assembleEntries context t ≤ n
@@ -112,9 +110,9 @@ module _ (sheetText : List ℕ) (sh : Sheet) (c : ℕ) (read : sheetOf sheetText
           let count = entries-labelled sheetText sh c (whole-sheet sheetText sh c read) bytes ends body b short (largest (sh .opcodes)) (g .small) (g .rows) places low (labelOffsets context rs) stands good 1 0 in
           rw its-lines (omega (arith, count, labelled-most (typeRows (sh .opcodes)) (largest (sh .opcodes)) body (labelOffsets context rs) stands, is-accepted .are-entries))
 
-      -- the operation gives the body
-      pub circle : tooLarge bytes ends ≡ false → fault bytes ends ≡ missing → length t ≤ textLimit → (lent : ℕ) → assembleEntries context t ≤ lent
-          → assemble sheetText bytes ends t lent ≡ result body (length body)
+      -- the operation gives the body, and needs as many label entries as the text's instructions take
+      pub circle : tooLarge bytes ends ≡ false → fault bytes ends ≡ missing → length t ≤ textLimit
+          → assemble sheetText bytes ends t ≡ produced (length body) body (assembleEntries context t ∷ [])
       unfolding assemble underInputs underTable unlessFault underContext
-      circle large sound small lent enough =
-          rw (le-ltb textLimit (length t) small, large, sound, read, text-assembled) (outcome-result lent (assembleEntries context t) body short enough)
+      circle large sound small =
+          rw (le-ltb textLimit (length t) small, large, sound, read, text-assembled) (outcome-result (assembleEntries context t) body short)

@@ -24,8 +24,8 @@ use Rattle.theorems.specs.Premises.{default, answers, goodString, goodOp
 use Rattle.spec_numbers.specs.Double.{bitsOfWhole, withSign, wholeDigits, readWhole, readHex16, readDouble, infinityText, hexMark}
 use Rattle.spec_strings.specs.Utf8.{afterLead, afterNext, step, utf8From, leadBits, bitsAfter, charsFrom}
 use Rattle.spec_strings.specs.Escape.{meant, unescape, unicode, escape, escapeAll, escapeText, quoted}
-use Rattle.spec_answers.specs.Outcome.{Outcome, measured}
-use Rattle.spec_answers.specs.Outcome.Outcome.{result, refusedWith}
+use Rattle.answers.specs.Outcome.{measured}
+use Rattle.answers.proofs.Shown.{room, outputOf, shown}
 use Rattle.spec_listing.specs.Operation.{listOutcome, list, listModule}
 use Rattle.spec_inputs.specs.Inputs.{unlessFault, underTable, underContext, underInputs}
 use Rattle.spec_hasm.specs.Text.{onto, linesOf, isWhite, solidLength, trim}
@@ -33,7 +33,7 @@ use Rattle.spec_hasm.specs.Comment.{isQuote, isComment, outside, inside}
 use Rattle.spec_hasm.specs.Split.{splitOutside, splitInside, tokensFrom, tokens, instructionName, instructionOperands}
 use Rattle.spec_hasm.specs.Line.{isSkipped, isLabel, hasHexPrefix, behindHexMark, isOffset, behindOffset, statementIn}
 use Rattle.spec_hasm.specs.Token.{numberOr, foundOr, registerValue, isQuoted, stringValue, offsetOr, targetIn, isNear, distanceTo, tokenValue}
-use Rattle.spec_hasm.specs.Assemble.{isTextByte, unlessBadLine, onStatement, codesFrom, onName, unlessBadName, foundIn, holding, labelsFrom, unlessFound, labelOffset, prepend as prependText, onValue, operandsFrom, behind, onOperands, bytesFrom, assembleCodes, assembleText}
+use Rattle.spec_hasm.specs.Assemble.{isTextByte, unlessBadLine, onStatement, programFrom, onName, unlessBadName, foundIn, holding, labelsFrom, unlessFound, labelOffset, prepend as prependText, onValue, operandsFrom, behind, onOperands, bytesFrom, assembleCodes, assembleText}
 use Rattle.spec_hasm.specs.Operation.{assembleOutcome, assemble}
 use Rattle.spec_numbers.specs.Print.{digit, digits, padded, decimal, signedDecimal, hexLower, hexLower4, hexUpper, hexUpper4}
 use Rattle.spec_body.specs.Function.{inArea}
@@ -101,18 +101,10 @@ to-front : comes bytes ends (1 ∷ 255 ∷ []) ≡ false
 unfolding comes bytes ends
 to-front = refl
 
--- what a body's default listing is assembled to: the bytes behind a 0, or number, line and operand of a refusal behind a 1
-textOf : Outcome → List ℕ
-textOf (result t n) = t
-textOf (refusedWith number place operand) = []
-
-shown : Outcome → List ℕ
-shown (result t n) = 0 ∷ t
-shown (refusedWith number line operand) = 1 ∷ number ∷ line ∷ operand ∷ []
-
+-- what a body's default listing is assembled to: length and bytes behind a 0, or number, line and operand of a refusal behind a 1
 unfoldable again : List ℕ → List ℕ → List ℕ → List ℕ
-unfolding textOf shown sheet bytes ends run all same opens text leBytes digitValue digitsValue unsignedValue parseU32In minus negated parseI32 bitsOfWhole withSign wholeDigits readWhole readHex16 readDouble infinityText hexMark typeNames typeCodeIn typeCode widthOf familyOf kindOf after literalAt isNameByte numberRead numberAt keyedAt mayBeName nameAt typeAt withType typesFrom typesAt headAt lineTypes lineHead lineAt typeRow infoRow fill hasName findName isMissing mayFollow accepted onLine opsFrom sheetOps sheetAt endsAt sheetOf above afterLead afterNext step utf8From tooLarge wellFormed faultFrom lookupFrom meant unescape sumBy unlessFault underTable underContext underInputs onto linesOf isWhite solidLength trim isQuote isComment outside inside splitOutside splitInside tokensFrom tokens instructionName instructionOperands isSkipped isLabel hasHexPrefix behindHexMark isOffset behindOffset statementIn numberOr foundOr registerValue token.unsignedValue isQuoted stringValue offsetOr targetIn isNear distanceTo tokenValue isTextByte unlessBadLine onStatement codesFrom onName unlessBadName foundIn holding labelsFrom unlessFound labelOffset prependText onValue operandsFrom behind onOperands bytesFrom assembleCodes assembleText assembleOutcome assemble list listModule hexUpper hexUpper4 listOutcome leadBits bitsAfter charsFrom unicode escape escapeAll escapeText quoted decodeFrom prepend pairs le extend8 digit digits padded decimal signedDecimal hexLower hexLower4 inArea nameOf isJump distanceOf targetOf stringText operandText operandTexts offsetText instructionText endsFlow targets labelsOf labelOffsets among different labelLine labelText instructionLine linesOfListed longLine listEntries unlessLong listDecoded append functionName banner listFunctionIn listFunctionsFrom measured
-again bytes ends body = shown (assemble sheet bytes ends (textOf (list default sheet bytes ends body 4)) 4)
+unfolding outputOf shown sheet bytes ends run all same opens text leBytes digitValue digitsValue unsignedValue parseU32In minus negated parseI32 bitsOfWhole withSign wholeDigits readWhole readHex16 readDouble infinityText hexMark typeNames typeCodeIn typeCode widthOf familyOf kindOf after literalAt isNameByte numberRead numberAt keyedAt mayBeName nameAt typeAt withType typesFrom typesAt headAt lineTypes lineHead lineAt typeRow infoRow fill hasName findName isMissing mayFollow accepted onLine opsFrom sheetOps sheetAt endsAt sheetOf above afterLead afterNext step utf8From tooLarge wellFormed faultFrom lookupFrom meant unescape sumBy unlessFault underTable underContext underInputs onto linesOf isWhite solidLength trim isQuote isComment outside inside splitOutside splitInside tokensFrom tokens instructionName instructionOperands isSkipped isLabel hasHexPrefix behindHexMark isOffset behindOffset statementIn numberOr foundOr registerValue token.unsignedValue isQuoted stringValue offsetOr targetIn isNear distanceTo tokenValue isTextByte unlessBadLine onStatement programFrom onName unlessBadName foundIn holding labelsFrom unlessFound labelOffset prependText onValue operandsFrom behind onOperands bytesFrom assembleCodes assembleText assembleOutcome assemble list listModule hexUpper hexUpper4 listOutcome leadBits bitsAfter charsFrom unicode escape escapeAll escapeText quoted decodeFrom prepend pairs le extend8 digit digits padded decimal signedDecimal hexLower hexLower4 inArea nameOf isJump distanceOf targetOf stringText operandText operandTexts offsetText instructionText endsFlow targets labelsOf labelOffsets among different labelLine labelText instructionLine linesOfListed longLine listEntries unlessLong listDecoded append functionName banner listFunctionIn listFunctionsFrom measured
+again bytes ends body = shown (assemble sheet bytes ends (outputOf (list default sheet bytes ends body))) (room 1000 4)
 
 -- without its premise a body does not round-trip: no sheet has the name "<invalid>"; `\u00E9` is another text; the text's first id
 -- is another; `L-1` is no address
@@ -124,7 +116,7 @@ not-plain-again : again bytes ends (2 ∷ 1 ∷ 1 ∷ 0 ∷ []) ≡ 1 ∷ 10 ∷
 unfolding again bytes ends
 not-plain-again = refl
 
-not-first-again : again (97 ∷ 97 ∷ []) (1 ∷ 2 ∷ []) (2 ∷ 1 ∷ 1 ∷ 0 ∷ []) ≡ 0 ∷ 2 ∷ 1 ∷ 0 ∷ 0 ∷ []
+not-first-again : again (97 ∷ 97 ∷ []) (1 ∷ 2 ∷ []) (2 ∷ 1 ∷ 1 ∷ 0 ∷ []) ≡ 0 ∷ 4 ∷ 2 ∷ 1 ∷ 0 ∷ 0 ∷ []
 unfolding again
 not-first-again = refl
 
@@ -133,10 +125,10 @@ unfolding again bytes ends
 to-front-again = refl
 
 -- a number in place of a text, and an offset inside of an instruction, are read back all the same
-no-text-again : again bytes ends (2 ∷ 1 ∷ 2 ∷ 0 ∷ []) ≡ 0 ∷ 2 ∷ 1 ∷ 2 ∷ 0 ∷ []
+no-text-again : again bytes ends (2 ∷ 1 ∷ 2 ∷ 0 ∷ []) ≡ 0 ∷ 4 ∷ 2 ∷ 1 ∷ 2 ∷ 0 ∷ []
 unfolding again bytes ends
 no-text-again = refl
 
-to-inside-again : again bytes ends (1 ∷ 1 ∷ []) ≡ 0 ∷ 1 ∷ 1 ∷ []
+to-inside-again : again bytes ends (1 ∷ 1 ∷ []) ≡ 0 ∷ 2 ∷ 1 ∷ 1 ∷ []
 unfolding again bytes ends
 to-inside-again = refl

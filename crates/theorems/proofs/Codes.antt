@@ -33,10 +33,9 @@ use Rattle.spec_listing.proofs.LinePieces.{Every}
 use Rattle.spec_listing.proofs.LineNames.{name-token, sheet-name-text, name-found}
 use Rattle.spec_listing.proofs.LineNames.ListedName.{named}
 use Rattle.spec_listing.proofs.LineOffset.{offset-no-name}
-use Rattle.spec_hasm.specs.Line.{opcodeNamed}
-use Rattle.spec_hasm.specs.Assemble.{Assembled, Label, Code, onStatement, codesFrom, rowOf, onName, unlessBadName, foundIn, operandsFrom, behind, onOperands, bytesFrom}
+use Rattle.spec_hasm.specs.Line.{Statement, opcodeNamed}
+use Rattle.spec_hasm.specs.Assemble.{Assembled, LabelLine, Code, onStatement, programFrom, codesFrom, rowOf, onName, unlessBadName, foundIn, operandsFrom, behind, onOperands, bytesFrom}
 use Rattle.spec_hasm.specs.Assemble.Assembled.{assembled}
-use Rattle.spec_hasm.specs.Assemble.Label.{none, called}
 use Rattle.spec_hasm.specs.Assemble.Operands.{written}
 use Rattle.theorems.specs.Premises.{goodOperands, goodRecord, goodRecords}
 use Rattle.theorems.proofs.Splits.{name-in, operands-in}
@@ -46,21 +45,22 @@ use Rattle.theorems.proofs.Instructions.{every-piece, operands-back}
 use Rattle.theorems.proofs.ListedLines.{lineOf, labelledLines, listedLines, line-shape}
 
 -- the code of an instruction
-abbrev pub codeOf : ℕ → Label → List ℕ → List (List ℕ) → Code
-codeOf n waiting name ps = record { line = n; label = waiting; name = name; operands = ps }
+abbrev pub codeOf : ℕ → List LabelLine → List ℕ → List (List ℕ) → Code
+codeOf n waiting name ps = record { line = n; labels = waiting; name = name; operands = ps }
 
 -- a label's line hands its label on
-pub codes-label : (e : Context) (n : ℕ) (waiting : Label) (at : ℕ) (ls : List (List ℕ)) → codesFrom e n waiting (labelHead at ∷ ls) ≡ codesFrom e (suc n) (called (76 ∷ decimal at)) ls
-unfolding codesFrom onStatement
-codes-label e n waiting at ls = rw (label-statement e at)
+pub codes-label : (e : Context) (n : ℕ) (waiting : List LabelLine) (at : ℕ) (ls : List (List ℕ)) → codesFrom e n waiting (labelHead at ∷ ls) ≡ codesFrom e (suc n) (record { line = n; text = 76 ∷ decimal at } ∷ waiting) ls
+unfolding programFrom onStatement
+codes-label e n waiting at ls = ap (λ (x : Statement). onStatement n waiting x (λ next. programFrom e (suc n) next ls) .codes) (label-statement e at)
 
 -- an instruction's line is its code
-codes-line : (e : Context) (n : ℕ) (waiting : Label) (at : ℕ) → at < 65536 → opcodeNamed e (hexLower4 at) ≡ missing → (name : List ℕ) → NameText name → (ps : List (List ℕ)) → Every Piece ps
-    → (ls : List (List ℕ)) → codesFrom e n waiting ((hexLower4 at ++ 32 ∷ 32 ∷ (name ++ behindName ps)) ∷ ls) ≡ codeOf n waiting name ps ∷ codesFrom e (suc n) none ls
-unfolding codesFrom onStatement
+codes-line : (e : Context) (n : ℕ) (waiting : List LabelLine) (at : ℕ) → at < 65536 → opcodeNamed e (hexLower4 at) ≡ missing → (name : List ℕ) → NameText name → (ps : List (List ℕ)) → Every Piece ps
+    → (ls : List (List ℕ)) → codesFrom e n waiting ((hexLower4 at ++ 32 ∷ 32 ∷ (name ++ behindName ps)) ∷ ls) ≡ codeOf n waiting name ps ∷ codesFrom e (suc n) [] ls
+unfolding programFrom onStatement
 codes-line e n waiting at h m name t ps hs ls =
     let b = name-token name (named t) .bytes in
-    rw (line-statement e at h m name t ps hs, name-in name b ps, operands-in name b ps hs)
+    ap (λ (x : Statement). onStatement n waiting x (λ next. programFrom e (suc n) next ls) .codes) (line-statement e at h m name t ps hs)
+    ∙ rw (name-in name b ps, operands-in name b ps hs) refl
 
 -- an instruction whose name is found and whose operands are as many as its row has
 names-more : (e : Context) (c : Code) (cs : List Code) (k : ℕ) (rest : Assembled) → opcodeNamed e (c .name) ≡ found k → length (c .operands) ≡ countOf (rowOf e k)
@@ -123,7 +123,7 @@ module _ (sheetText : List ℕ) (sh : Sheet) (c : ℕ) (read : sheetAt sheetText
       are-pieces = every-piece context places low s b at (omega arith) row good-row good-operands
 
       -- its line is its code
-      pub its-code : (n : ℕ) (waiting : Label) (ls : List (List ℕ)) → codesFrom context n waiting (lineOf context its ∷ ls) ≡ codeOf n waiting name pieces ∷ codesFrom context (suc n) none ls
+      pub its-code : (n : ℕ) (waiting : List LabelLine) (ls : List (List ℕ)) → codesFrom context n waiting (lineOf context its ∷ ls) ≡ codeOf n waiting name pieces ∷ codesFrom context (suc n) [] ls
       its-code n waiting ls =
           ap (λ (l : List ℕ). codesFrom context n waiting (l ∷ ls)) (line-shape context its)
           ∙ codes-line context n waiting at (omega arith) (offset-missed at) name (sheet-name-text sheetText 0 sh c read bytes ends (getD s at 0) has-name) pieces are-pieces ls
@@ -132,29 +132,29 @@ module _ (sheetText : List ℕ) (sh : Sheet) (c : ℕ) (read : sheetAt sheetText
       its-opcode = own-opcode (getD s at 0) (omega arith) has-name
 
       -- its code is assembled to its bytes
-      code-back : (n : ℕ) (waiting : Label) (cs : List Code) → Back context s (at + lengthOf row) cs → Back context s at (codeOf n waiting name pieces ∷ cs)
+      code-back : (n : ℕ) (waiting : List LabelLine) (cs : List Code) → Back context s (at + lengthOf row) cs → Back context s at (codeOf n waiting name pieces ∷ cs)
       code-back n waiting cs k = record {
         names = λ rest. names-more context (codeOf n waiting name pieces) cs (getD s at 0) rest its-opcode (pieces-count true bytes ends at row good-row (pairs row s (at + 1)) ∙ sym (good-count good-row)) ∙ k .names rest;
         bytes = λ labels. bytes-more context labels at (codeOf n waiting name pieces) cs (getD s at 0) (part s (at + 1) (totalWidth row)) (drop (at + lengthOf row) s) its-opcode (operands-back context places low s b at (omega arith) row good-row good-operands labels (omega arith)) (k .bytes labels)
             ∙ ap assembled (sym (instruction-split s b at (totalWidth row) inside));
       }
 
-      line-back : (ls : List (List ℕ)) → ((m : ℕ) (w : Label) → Back context s (at + lengthOf row) (codesFrom context m w ls)) → (n : ℕ) (waiting : Label) → Back context s at (codesFrom context n waiting (lineOf context its ∷ ls))
-      line-back ls k n waiting = rw (its-code n waiting ls) (code-back n waiting (codesFrom context (suc n) none ls) (k (suc n) none))
+      line-back : (ls : List (List ℕ)) → ((m : ℕ) (w : List LabelLine) → Back context s (at + lengthOf row) (codesFrom context m w ls)) → (n : ℕ) (waiting : List LabelLine) → Back context s at (codesFrom context n waiting (lineOf context its ∷ ls))
+      line-back ls k n waiting = rw (its-code n waiting ls) (code-back n waiting (codesFrom context (suc n) [] ls) (k (suc n) []))
 
       -- behind a label or not
-      head-back : (t : Bool) (ls : List (List ℕ)) → ((m : ℕ) (w : Label) → Back context s (at + lengthOf row) (codesFrom context m w ls)) → (n : ℕ) (waiting : Label) → Back context s at (codesFrom context n waiting (labelledLines t at (lineOf context its ∷ ls)))
+      head-back : (t : Bool) (ls : List (List ℕ)) → ((m : ℕ) (w : List LabelLine) → Back context s (at + lengthOf row) (codesFrom context m w ls)) → (n : ℕ) (waiting : List LabelLine) → Back context s at (codesFrom context n waiting (labelledLines t at (lineOf context its ∷ ls)))
       unfolding labelledLines
-      head-back true ls k n waiting = rw (codes-label context n waiting at (lineOf context its ∷ ls)) (line-back ls k (suc n) (called (76 ∷ decimal at)))
+      head-back true ls k n waiting = rw (codes-label context n waiting at (lineOf context its ∷ ls)) (line-back ls k (suc n) (record { line = n; text = 76 ∷ decimal at } ∷ waiting))
       head-back false ls k n waiting = line-back ls k n waiting
 
-    none-back : (at n : ℕ) (waiting : Label) → length s ≤ at → Back context s at (codesFrom context n waiting [])
-    unfolding codesFrom unlessBadName bytesFrom
+    none-back : (at n : ℕ) (waiting : List LabelLine) → length s ≤ at → Back context s at (codesFrom context n waiting [])
+    unfolding programFrom unlessBadName bytesFrom
     none-back at n waiting h = record { names = λ rest. refl; bytes = λ labels. ap assembled (sym (drop-of-length-le s h)) }
 
     -- all that stand there
     pub codes-back : (labels : List ℕ) {at : ℕ} {rs : List (List ℕ)} → Decoding (typeRows (sh .opcodes)) last s at rs → goodRecords context places rs ≡ true
-        → (n : ℕ) (waiting : Label) → Back context s at (codesFrom context n waiting (listedLines context labels rs))
+        → (n : ℕ) (waiting : List LabelLine) → Back context s at (codesFrom context n waiting (listedLines context labels rs))
     unfolding listedLines
     codes-back labels {at} (ended h) g n waiting = none-back at n waiting h
     codes-back labels {at} (more {rs = rs} h l k d) g n waiting =

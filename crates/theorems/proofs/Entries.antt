@@ -22,8 +22,7 @@ use Rattle.spec_body.proofs.RowLaws.{GoodRows}
 use Rattle.spec_inputs.specs.Context.{Context}
 use Rattle.spec_listing.specs.Labels.{among, different}
 use Rattle.spec_inputs.specs.Inputs.{contextOf}
-use Rattle.spec_hasm.specs.Assemble.{Code, codesFrom, sizeIn, holding, labelsFrom}
-use Rattle.spec_hasm.specs.Assemble.Label.{none, called}
+use Rattle.spec_hasm.specs.Assemble.{Code, LabelLine, programFrom, codesFrom, sizeIn, holding, labelsFrom}
 use Rattle.theorems.specs.Premises.{goodRecord, goodRecords}
 use Rattle.theorems.proofs.PremiseLaws.{records-first, records-rest}
 use Rattle.theorems.proofs.ListedLines.{lineOf, labelledLines, listedLines}
@@ -53,13 +52,13 @@ labelled-most types last s labels {at} d =
 
 -- the labels of codes with one in front
 module _ (e : Context) (at n : ℕ) (name : List ℕ) (ps : List (List ℕ)) (cs : List Code) where
-  labels-none : length (labelsFrom e at (codeOf n none name ps ∷ cs)) ≡ length (labelsFrom e (at + sizeIn e (codeOf n none name ps)) cs)
+  labels-none : length (labelsFrom e at (codeOf n [] name ps ∷ cs)) ≡ length (labelsFrom e (at + sizeIn e (codeOf n [] name ps)) cs)
   unfolding labelsFrom holding
   labels-none = refl
 
-  labels-called : (t : List ℕ) → length (labelsFrom e at (codeOf n (called t) name ps ∷ cs)) ≡ suc (length (labelsFrom e (at + sizeIn e (codeOf n (called t) name ps)) cs))
+  labels-called : (l : LabelLine) (ws : List LabelLine) → length (labelsFrom e at (codeOf n (l ∷ ws) name ps ∷ cs)) ≡ suc (length (labelsFrom e (at + sizeIn e (codeOf n (l ∷ ws) name ps)) cs))
   unfolding labelsFrom holding
-  labels-called t = refl
+  labels-called l ws = refl
 
 module _ (sheetText : List ℕ) (sh : Sheet) (c : ℕ) (read : sheetAt sheetText 0 ≡ sheet sh c) (bytes ends : List ℕ) (s : List ℕ) (b : Bytes s) (short : length s ≤ 65536)
     (last : ℕ) (small : last ≤ 255) (rows : GoodRows (typeRows (sh .opcodes))) (places : List ℕ) (low : all (λ x. leb x 65536) places ≡ true) where
@@ -72,19 +71,19 @@ module _ (sheetText : List ℕ) (sh : Sheet) (c : ℕ) (read : sheetAt sheetText
     its = recordOf (rowAt (typeRows (sh .opcodes)) s at) s at
 
     -- an instruction's line, and one behind its label's
-    head-entries : (t : Bool) (ls : List (List ℕ)) (k : ℕ) → ((m o : ℕ) → length (labelsFrom context o (codesFrom context m none ls)) ≡ k)
-        → (n o : ℕ) → length (labelsFrom context o (codesFrom context n none (labelledLines t at (lineOf context its ∷ ls)))) ≡ pick t (suc k) k
+    head-entries : (t : Bool) (ls : List (List ℕ)) (k : ℕ) → ((m o : ℕ) → length (labelsFrom context o (codesFrom context m [] ls)) ≡ k)
+        → (n o : ℕ) → length (labelsFrom context o (codesFrom context n [] (labelledLines t at (lineOf context its ∷ ls)))) ≡ pick t (suc k) k
     unfolding labelledLines
     head-entries true ls k h n o =
-        rw (codes-label context n none at (lineOf context its ∷ ls), its-code sheetText sh c read bytes ends s b short last small rows places low at inside known whole good (suc n) (called (76 ∷ decimal at)) ls)
-        (labels-called context o _ _ _ _ (76 ∷ decimal at) ∙ ap suc (h _ _))
+        rw (codes-label context n [] at (lineOf context its ∷ ls), its-code sheetText sh c read bytes ends s b short last small rows places low at inside known whole good (suc n) (record { line = n; text = 76 ∷ decimal at } ∷ []) ls)
+        (labels-called context o _ _ _ _ _ [] ∙ ap suc (h _ _))
     head-entries false ls k h n o =
-        rw (its-code sheetText sh c read bytes ends s b short last small rows places low at inside known whole good n none ls) (labels-none context o _ _ _ _ ∙ h _ _)
+        rw (its-code sheetText sh c read bytes ends s b short last small rows places low at inside known whole good n [] ls) (labels-none context o _ _ _ _ ∙ h _ _)
 
   -- each label line is taken by the instruction behind it
   pub entries-labelled : (labels : List ℕ) {at : ℕ} {rs : List (List ℕ)} → Decoding (typeRows (sh .opcodes)) last s at rs → goodRecords context places rs ≡ true
-      → (n o : ℕ) → length (labelsFrom context o (codesFrom context n none (listedLines context labels rs))) ≡ labelled labels rs
-  unfolding listedLines labelled codesFrom labelsFrom
+      → (n o : ℕ) → length (labelsFrom context o (codesFrom context n [] (listedLines context labels rs))) ≡ labelled labels rs
+  unfolding listedLines labelled programFrom labelsFrom
   entries-labelled labels (ended h) g n o = refl
   entries-labelled labels {at} (more {rs = rs} h l k d) g n o =
       let r = recordOf (rowAt (typeRows (sh .opcodes)) s at) s at in

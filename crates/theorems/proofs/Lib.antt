@@ -14,3 +14,4 @@ pub mod Circle
 pub mod ListAssemble
 pub mod CircleTrials
 pub mod Starred
+pub mod AssembleEncode

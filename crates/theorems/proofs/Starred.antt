@@ -16,9 +16,9 @@ use Rattle.spec_sheet.specs.Row.{sumBy}
 use Rattle.spec_body.specs.Record.{pairs, join}
 use Rattle.spec_body.specs.Decode.{prepend, decodeFrom}
 use Rattle.spec_body.specs.Operation.{decodeOutcome, decode}
-use Rattle.spec_answers.specs.Outcome.{Outcome, measured}
+use Rattle.answers.specs.Outcome.{measured}
+use Rattle.answers.proofs.Shown.{room, shown}
 use Rattle.spec_inputs.specs.Inputs.{underSheet, unlessFault, underTable, underContext, underInputs}
-use Rattle.spec_answers.specs.Outcome.Outcome.{result, refusedWith}
 use Rattle.spec_numbers.specs.Double.{bitsOfWhole, withSign, wholeDigits, readWhole, readHex16, readDouble, infinityText, hexMark}
 use Rattle.spec_strings.specs.Utf8.{afterLead, afterNext, step, utf8From}
 use Rattle.spec_strings.specs.Table.{tooLarge, wellFormed, faultFrom, lookupFrom}
@@ -28,7 +28,7 @@ use Rattle.spec_hasm.specs.Comment.{isQuote, isComment, outside, inside}
 use Rattle.spec_hasm.specs.Split.{splitOutside, splitInside, tokensFrom, tokens, instructionName, instructionOperands}
 use Rattle.spec_hasm.specs.Line.{isSkipped, isLabel, hasHexPrefix, behindHexMark, isOffset, behindOffset, statementIn}
 use Rattle.spec_hasm.specs.Token.{numberOr, foundOr, registerValue, isQuoted, stringValue, offsetOr, targetIn, isNear, distanceTo, tokenValue}
-use Rattle.spec_hasm.specs.Assemble.{isTextByte, unlessBadLine, onStatement, codesFrom, onName, unlessBadName, foundIn, holding, labelsFrom, unlessFound, labelOffset, prepend as prependBytes, onValue, operandsFrom, behind, onOperands, bytesFrom, assembleCodes, assembleText}
+use Rattle.spec_hasm.specs.Assemble.{isTextByte, unlessBadLine, onStatement, programFrom, onName, unlessBadName, foundIn, holding, labelsFrom, unlessFound, labelOffset, prepend as prependBytes, onValue, operandsFrom, behind, onOperands, bytesFrom, assembleCodes, assembleText}
 use Rattle.spec_hasm.specs.Operation.{assembleOutcome, assemble}
 use Rattle.spec_hasm.specs.Token as token
 
@@ -37,14 +37,9 @@ unfoldable pub sheet : List ℕ
 sheet =
     text "version=1\ncount=4\nop=0 name=LoadByte jump=0 types=Reg8,UInt8\nop=1 name=Jmp jump=1 types=Addr8\nop=2 name=LoadText jump=0 types=Reg8,UInt16S\nop=4 name=Ret jump=0 types=Reg8\n"
 
--- the words of a result, or number, place and operand of a refusal behind a 1
-unfoldable pub shown : Outcome → List ℕ
-shown (result words n) = 0 ∷ n ∷ words
-shown (refusedWith number place operand) = 1 ∷ number ∷ place ∷ operand ∷ []
-
 unfoldable pub decoding : List ℕ → List ℕ
 unfolding shown decode underSheet decodeOutcome decodeFrom prepend pairs sumBy join le widthOf kindOf sheetOf endsAt sheetAt sheetOps opsFrom onLine accepted mayFollow isMissing findName hasName fill typeRow infoRow lineAt lineHead lineTypes headAt typesAt typesFrom withType typeAt nameAt mayBeName keyedAt numberAt numberRead isNameByte literalAt after typeCode typeCodeIn typeNames unsignedValue digitsValue digitValue run same opens text above sheet
-decoding body = shown (decode sheet body)
+decoding body = shown (decode sheet body) (room 1000 0)
 
 -- the strings of document 01's job
 unfoldable bytes : List ℕ
@@ -55,8 +50,8 @@ ends = 3 ∷ 5 ∷ []
 
 -- a text under that sheet and those strings, with no label entry lent
 unfoldable pub assembling : List ℕ → List ℕ
-unfolding shown sheet bytes ends run all same opens text leBytes digitValue digitsValue unsignedValue parseU32In minus negated parseI32 bitsOfWhole withSign wholeDigits readWhole readHex16 readDouble infinityText hexMark typeNames typeCodeIn typeCode widthOf familyOf kindOf after literalAt isNameByte numberRead numberAt keyedAt mayBeName nameAt typeAt withType typesFrom typesAt headAt lineTypes lineHead lineAt typeRow infoRow fill hasName findName isMissing mayFollow accepted onLine opsFrom sheetOps sheetAt endsAt sheetOf above afterLead afterNext step utf8From tooLarge wellFormed faultFrom lookupFrom meant unescape sumBy unlessFault underTable underContext underInputs onto linesOf isWhite solidLength trim isQuote isComment outside inside splitOutside splitInside tokensFrom tokens instructionName instructionOperands isSkipped isLabel hasHexPrefix behindHexMark isOffset behindOffset statementIn numberOr foundOr registerValue token.unsignedValue isQuoted stringValue offsetOr targetIn isNear distanceTo tokenValue isTextByte unlessBadLine onStatement codesFrom onName unlessBadName foundIn holding labelsFrom unlessFound labelOffset prependBytes onValue operandsFrom behind onOperands bytesFrom assembleCodes assembleText assembleOutcome assemble measured
-assembling t = shown (assemble sheet bytes ends t 0)
+unfolding shown sheet bytes ends run all same opens text leBytes digitValue digitsValue unsignedValue parseU32In minus negated parseI32 bitsOfWhole withSign wholeDigits readWhole readHex16 readDouble infinityText hexMark typeNames typeCodeIn typeCode widthOf familyOf kindOf after literalAt isNameByte numberRead numberAt keyedAt mayBeName nameAt typeAt withType typesFrom typesAt headAt lineTypes lineHead lineAt typeRow infoRow fill hasName findName isMissing mayFollow accepted onLine opsFrom sheetOps sheetAt endsAt sheetOf above afterLead afterNext step utf8From tooLarge wellFormed faultFrom lookupFrom meant unescape sumBy unlessFault underTable underContext underInputs onto linesOf isWhite solidLength trim isQuote isComment outside inside splitOutside splitInside tokensFrom tokens instructionName instructionOperands isSkipped isLabel hasHexPrefix behindHexMark isOffset behindOffset statementIn numberOr foundOr registerValue token.unsignedValue isQuoted stringValue offsetOr targetIn isNear distanceTo tokenValue isTextByte unlessBadLine onStatement programFrom onName unlessBadName foundIn holding labelsFrom unlessFound labelOffset prependBytes onValue operandsFrom behind onOperands bytesFrom assembleCodes assembleText assembleOutcome assemble measured
+assembling t = shown (assemble sheet bytes ends t) (room 1000 0)
 
 -- what was computed and what document 01 says
 pub record Trial : Type 0 where

@@ -15,7 +15,7 @@ use Rattle.spec_sheet.specs.Sheet.SheetRead.{sheet, malformed}
 use Rattle.spec_strings.specs.Table.{lookup}
 use Rattle.spec_strings.specs.Plain.{plain}
 use Rattle.spec_body.specs.Decode.{Decoded, decodeBody}
-use Rattle.spec_body.specs.Decode.Decoded.{decoded, beyond, cut}
+use Rattle.spec_body.specs.Decode.Decoded.{decoded, notDecoded}
 use Rattle.spec_inputs.specs.Context.{Context, nameOf, hasText, textAt}
 use Rattle.spec_listing.specs.Options.{Options}
 use Rattle.spec_listing.specs.Operand.{targetOf}
@@ -68,8 +68,7 @@ roundTrips e body rs = goodRecords e (placesOf rs (length body)) rs
 -- the same of a body as it is given, under a sheet's text and a string table: one that is refused does not round-trip
 unfoldable pub decodedBack : Context → List ℕ → Decoded → Bool
 decodedBack e body (decoded rs) = roundTrips e body rs
-decodedBack e body (beyond at) = false
-decodedBack e body (cut at) = false
+decodedBack e body (notDecoded x) = false
 
 unfoldable pub sheetBack : SheetRead → List ℕ → List ℕ → List ℕ → List ℕ → Bool
 sheetBack (sheet sh at) text bytes ends body =

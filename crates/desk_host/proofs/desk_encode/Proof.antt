@@ -1,5 +1,4 @@
-use Rattle.operation.specs.Numbers.{numbersOf}
-use mathlib.Core.Path.{ap, _∙_}
+use Rattle.answers.proofs.OutcomeLaws.{ended-numbers}
 use borrow.Author.Needs.{needs}
 use Rattle.desk_host.proofs.desk_encode.Statement.{statement}
 use Rattle.desk_host.proofs.desk_encode.Tie as tie
@@ -14,7 +13,7 @@ same-length : tie.Need-same-length
 same-length c = search needs
 
 returns : tie.Need-returns
-returns c = (c .encode-numbers .ensures ∙ ap numbersOf (c .before .before .before .encode .ensures .0), search needs)
+returns c = ended-numbers (c .encode-numbers .ensures) (c .before .before .before .encode .ensures)
 
 pub desk-encode-spec : {M : Type 1} → statement M
 desk-encode-spec = tie.close (tie.spec encode-requires encode-numbers-requires same-length returns)

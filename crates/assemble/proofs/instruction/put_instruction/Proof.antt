@@ -1,11 +1,10 @@
-use Rattle.assemble.proofs.InstructionLaws.{opcode-inside, opcode-is, put-whole, put-refused, tail-short}
+use Rattle.assemble.proofs.InstructionLaws.{opcode-below, put-whole, put-refused, tail-short}
 use Rattle.assemble.specs.Contexts.{labelsOf}
 use Rattle.spec_inputs.specs.Context.{contextFrom}
 use Rattle.spec_sheet.specs.Sheet.{findName}
 use lib.ListN.{take}
 use native.Mathlib.Omega.{arith}
 use Prim.Native.Nat.{_-_}
-use mathlib.Core.Path.{_∙_}
 use borrow.Author.Needs.{needs}
 use Rattle.assemble.proofs.instruction.put_instruction.Statement.{statement}
 use Rattle.assemble.proofs.instruction.put_instruction.Tie as tie
@@ -28,20 +27,32 @@ find-indexed-requires c κs = search needs
 opcode-in-requires : tie.Need-opcode-in-requires
 opcode-in-requires c κs = omega arith
 
-returns : tie.Need-returns
-returns c = let a = c .before .before .before .before .before .before .before .before .before .before .before .before .before .before .before .args in let name = take (c .before .before .before .before .before .skip .result - 0) (a .s .now) in absurd (omega (arith, c .before .before .opcode-in .ensures (findName (a .sheet .now) name 0 (a .ops .now)) (c .before .before .before .find-indexed .ensures), opcode-inside (a .sheet .now) name (a .ops .now) (omega (arith, c .before .rows .given)), c .if1 .taken, c .before .rows .given))
-
 mul-row : tie.Need-mul-row
-mul-row c = omega arith
+mul-row c =
+    let a = c .before .before .before .before .before .before .before .before .before .before .before .before .before .before .args in
+    let name = take (c .before .before .before .before .skip .result - 0) (a .s .now) in
+    let o = c .before .opcode-in .ensures (findName (a .sheet .now) name 0 (a .ops .now)) (c .before .before .find-indexed .ensures) in
+    let below = opcode-below (a .sheet .now) name (a .ops .now) (omega (arith, c .-rows .given)) in
+    record { fits = omega (arith, o, below) }
 
 element-copy-out-row : tie.Need-element-copy-out-row
-element-copy-out-row c = omega arith
+element-copy-out-row c =
+    let a = c .before .before .before .before .before .before .before .before .before .before .before .before .before .before .args in
+    let name = take (c .before .before .before .before .skip .result - 0) (a .s .now) in
+    let o = c .before .opcode-in .ensures (findName (a .sheet .now) name 0 (a .ops .now)) (c .before .before .find-indexed .ensures) in
+    let below = opcode-below (a .sheet .now) name (a .ops .now) (omega (arith, c .-rows .given)) in
+    omega (arith, o, below)
 
 skip-requires-2 : tie.Need-skip-requires-2
 skip-requires-2 c κs = omega arith
 
 cast-put-byte : tie.Need-cast-put-byte
-cast-put-byte c = omega arith
+cast-put-byte c =
+    let a = c .before .before .before .before .before .before .before .before .before .before .before .before .before .before .before .before .before .args in
+    let name = take (c .before .before .before .before .before .before .before .skip .result - 0) (a .s .now) in
+    let o = c .before .before .before .before .opcode-in .ensures (findName (a .sheet .now) name 0 (a .ops .now)) (c .before .before .before .before .before .find-indexed .ensures) in
+    let below = opcode-below (a .sheet .now) name (a .ops .now) (omega (arith, c .before .before .before .-rows .given)) in
+    omega (arith, o, below)
 
 put-byte-requires : tie.Need-put-byte-requires
 put-byte-requires c κs = omega arith
@@ -56,7 +67,9 @@ part-put-operands-end : tie.Need-part-put-operands-end
 part-put-operands-end c = omega arith
 
 put-operands-requires : tie.Need-put-operands-requires
-put-operands-requires c κs = ((c .before .before .before .before .before .before .before .before .before .before .before .before .before .before .before .before .before .before .before .before .before .before .before .before .pre .0 .0, tail-short (c .before .before .before .before .before .before .before .before .before .before .before .before .before .before .before .before .before .before .before .before .before .before .before .before .args .s .now) (c .before .before .before .before .before .before .before .skip2 .result) 4096 (c .before .before .before .before .before .before .before .before .before .before .before .before .before .before .before .before .before .before .before .before .before .before .before .before .pre .0 .1), c .before .before .before .before .before .before .before .before .before .before .before .before .before .before .before .before .before .before .before .before .before .before .before .before .pre .0 .2), (omega (arith, c .before .before .before .before .before .before .before .before .before .before .before .before .before .before .before .before .before .before .before .before .before .before .before .before .pre .1 .0), c .before .before .before .before .before .before .before .before .before .before .before .before .before .before .before .before .before .before .before .before .before .before .before .before .pre .1 .1))
+put-operands-requires c κs =
+    let p = c .before .before .before .before .before .before .before .before .before .before .before .before .before .before .before .before .before .before .before .before .before .before .before .pre in
+    ((p .0 .0, tail-short (c .before .before .before .before .before .before .before .before .before .before .before .before .before .before .before .before .before .before .before .before .before .before .before .args .s .now) (c .before .before .before .before .before .before .before .skip2 .result) 4096 (p .0 .1), p .0 .2), (omega (arith, p .1 .0), p .1 .1))
 
 enum-known-o : tie.Need-enum-known-o
 enum-known-o c = omega arith
@@ -64,8 +77,8 @@ enum-known-o c = omega arith
 instruction-length-requires : tie.Need-instruction-length-requires
 instruction-length-requires c κs = omega arith
 
-add-t50 : tie.Need-add-t50
-add-t50 c = record { fits = omega (arith, c .before .before .before .before .before .before .before .before .before .before .before .before .before .before .before .before .before .before .before .before .before .before .before .before .before .before .before .before .before .before .before .before .before .pre .1 .0, c .instruction-length .ensures .1) }
+add-t49 : tie.Need-add-t49
+add-t49 c = record { fits = omega (arith, c .before .before .before .before .before .before .before .before .before .before .before .before .before .before .before .before .before .before .before .before .before .before .before .before .before .before .before .before .before .before .before .before .pre .1 .0, c .instruction-length .ensures .1) }
 
 enum-known-o-2 : tie.Need-enum-known-o-2
 enum-known-o-2 c = omega arith
@@ -76,8 +89,13 @@ same-length c = omega arith
 same-length-2 : tie.Need-same-length-2
 same-length-2 c = omega arith
 
-returns-2 : tie.Need-returns-2
-returns-2 c = let a = c .before .before .before .before .before .before .before .before .before .before .before .before .before .before .before .before .before .before .before .before .before .before .before .before .before .before .before .before .before .before .before .before .before .args in let e = contextFrom (a .sheet .now) (a .types .now) (a .ops .now) (a .bytes .now) (a .ends .now) in let n = c .before .before .before .before .before .before .before .before .before .before .before .before .before .before .before .before .before .before .before .before .before .before .before .skip .result in let o = c .before .before .before .before .before .before .before .before .before .before .before .before .before .before .before .before .before .before .before .before .opcode-in .ensures (findName (a .sheet .now) (take (n - 0) (a .s .now)) 0 (a .ops .now)) (c .before .before .before .before .before .before .before .before .before .before .before .before .before .before .before .before .before .before .before .before .before .find-indexed .ensures) in (put-whole e (labelsOf e (a .text .now)) (a .s .now) (a .place .offset) n (c .before .before .before .before .before .before .before .before .before .before .before .before .before .before .before .before .skip2 .result) (c .before .before .before .before .before .before .before .before .before .before .before .before .before .before .before .before .before .before .before .before .before .before .before .skip .ensures .0) (c .before .before .before .before .before .before .before .before .before .before .before .before .before .before .before .before .skip2 .ensures .0) (c .before .before .before .before .before .before .before .before .before .before .before .before .before .before .before .before .before .before .before .before .opcode-in .result) (o ∙ opcode-is e (labelsOf e (a .text .now)) (a .s .now) (a .place .offset) n (c .before .before .before .before .before .before .before .before .before .before .before .before .before .before .before .before .skip2 .result) (c .before .before .before .before .before .before .before .before .before .before .before .before .before .before .before .before .before .before .before .before .before .before .before .skip .ensures .0) (c .before .before .before .before .before .before .before .before .before .before .before .before .before .before .before .before .skip2 .ensures .0)) (c .before .before .before .before .before .before .before .before .before .before .before .before .before .before .put-byte .ensures) _ _ (c .instruction-length .ensures .0) (rw (c .before .before .o .given .1) at (c .before .before .before .before .before .before .before .before .put-operands .ensures)), omega (arith, c .instruction-length .ensures .1))
+returns : tie.Need-returns
+returns c =
+    let a = c .before .before .before .before .before .before .before .before .before .before .before .before .before .before .before .before .before .before .before .before .before .before .before .before .before .before .before .before .before .before .before .before .args in
+    let e = contextFrom (a .sheet .now) (a .types .now) (a .ops .now) (a .bytes .now) (a .ends .now) in
+    let n = c .before .before .before .before .before .before .before .before .before .before .before .before .before .before .before .before .before .before .before .before .before .before .skip .result in
+    let o = c .before .before .before .before .before .before .before .before .before .before .before .before .before .before .before .before .before .before .before .opcode-in .ensures (findName (a .sheet .now) (take (n - 0) (a .s .now)) 0 (a .ops .now)) (c .before .before .before .before .before .before .before .before .before .before .before .before .before .before .before .before .before .before .before .before .find-indexed .ensures) in
+    put-whole e (labelsOf e (a .text .now)) (a .s .now) (a .place) n (c .before .before .before .before .before .before .before .before .before .before .before .before .before .before .before .before .skip2 .result) (c .before .before .before .before .before .before .before .before .before .before .before .before .before .before .before .before .before .before .before .before .before .before .skip .ensures .0) (c .before .before .before .before .before .before .before .before .before .before .before .before .before .before .before .before .skip2 .ensures .0) (c .before .before .before .before .before .before .before .before .before .before .before .before .before .before .before .before .before .before .before .opcode-in .result) o _ _ (c .instruction-length .ensures .0) (c .instruction-length .ensures .1) (c .before .before .before .before .before .before .before .before .before .before .before .before .before .before .put-byte .ensures) (rw (c .before .before .o .given .1) at (c .before .before .before .before .before .before .before .before .put-operands .ensures))
 
 same-length-3 : tie.Need-same-length-3
 same-length-3 c = omega arith
@@ -85,8 +103,13 @@ same-length-3 c = omega arith
 same-length-4 : tie.Need-same-length-4
 same-length-4 c = omega arith
 
-returns-3 : tie.Need-returns-3
-returns-3 c = let a = c .before .before .before .before .before .before .before .before .before .before .before .before .before .before .before .before .before .before .before .before .before .before .before .before .before .before .before .before .before .before .before .before .args in let e = contextFrom (a .sheet .now) (a .types .now) (a .ops .now) (a .bytes .now) (a .ends .now) in let n = c .before .before .before .before .before .before .before .before .before .before .before .before .before .before .before .before .before .before .before .before .before .before .skip .result in let o = c .before .before .before .before .before .before .before .before .before .before .before .before .before .before .before .before .before .before .before .opcode-in .ensures (findName (a .sheet .now) (take (n - 0) (a .s .now)) 0 (a .ops .now)) (c .before .before .before .before .before .before .before .before .before .before .before .before .before .before .before .before .before .before .before .before .find-indexed .ensures) in (put-refused e (labelsOf e (a .text .now)) (a .s .now) (a .place .offset) n (c .before .before .before .before .before .before .before .before .before .before .before .before .before .before .before .skip2 .result) (c .before .before .before .before .before .before .before .before .before .before .before .before .before .before .before .before .before .before .before .before .before .before .skip .ensures .0) (c .before .before .before .before .before .before .before .before .before .before .before .before .before .before .before .skip2 .ensures .0) (c .before .before .before .before .before .before .before .before .before .before .before .before .before .before .before .before .before .before .before .opcode-in .result) (o ∙ opcode-is e (labelsOf e (a .text .now)) (a .s .now) (a .place .offset) n (c .before .before .before .before .before .before .before .before .before .before .before .before .before .before .before .skip2 .result) (c .before .before .before .before .before .before .before .before .before .before .before .before .before .before .before .before .before .before .before .before .before .before .skip .ensures .0) (c .before .before .before .before .before .before .before .before .before .before .before .before .before .before .before .skip2 .ensures .0)) (c .before .before .before .before .before .before .before .before .before .before .before .before .before .put-byte .ensures) _ _ (rw (c .before .o2 .given .1) at (c .before .before .before .before .before .before .before .put-operands .ensures)), omega arith)
+returns-2 : tie.Need-returns-2
+returns-2 c =
+    let a = c .before .before .before .before .before .before .before .before .before .before .before .before .before .before .before .before .before .before .before .before .before .before .before .before .before .before .before .before .before .before .before .args in
+    let e = contextFrom (a .sheet .now) (a .types .now) (a .ops .now) (a .bytes .now) (a .ends .now) in
+    let n = c .before .before .before .before .before .before .before .before .before .before .before .before .before .before .before .before .before .before .before .before .before .skip .result in
+    let o = c .before .before .before .before .before .before .before .before .before .before .before .before .before .before .before .before .before .before .opcode-in .ensures (findName (a .sheet .now) (take (n - 0) (a .s .now)) 0 (a .ops .now)) (c .before .before .before .before .before .before .before .before .before .before .before .before .before .before .before .before .before .before .before .find-indexed .ensures) in
+    put-refused e (labelsOf e (a .text .now)) (a .s .now) (a .place) n (c .before .before .before .before .before .before .before .before .before .before .before .before .before .before .before .skip2 .result) (c .before .before .before .before .before .before .before .before .before .before .before .before .before .before .before .before .before .before .before .before .before .skip .ensures .0) (c .before .before .before .before .before .before .before .before .before .before .before .before .before .before .before .skip2 .ensures .0) (c .before .before .before .before .before .before .before .before .before .before .before .before .before .before .before .before .before .before .opcode-in .result) o (rw (c .before .o2 .given .1) at (c .before .before .before .before .before .before .before .put-operands .ensures))
 
 pub put-instruction-spec : {M : Type 1} → statement M
 put-instruction-spec =
@@ -98,7 +121,6 @@ put-instruction-spec =
     part-find-indexed-end
     find-indexed-requires
     opcode-in-requires
-    returns
     mul-row
     element-copy-out-row
     skip-requires-2
@@ -110,11 +132,11 @@ put-instruction-spec =
     put-operands-requires
     enum-known-o
     instruction-length-requires
-    add-t50
+    add-t49
     enum-known-o-2
     same-length
     same-length-2
-    returns-2
+    returns
     same-length-3
     same-length-4
-    returns-3)
+    returns-2)

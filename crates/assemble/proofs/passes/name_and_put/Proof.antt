@@ -1,5 +1,7 @@
+use Rattle.spec_inputs.specs.Context.{contextFrom}
 use Rattle.assemble.specs.Answers.{assembleReport}
-use Rattle.assemble.proofs.PassLaws.{were-good, was-unknown, was-miscounted, refused-text}
+use Rattle.assemble.specs.Passes.IdsLeft.{filled, kept}
+use Rattle.assemble.proofs.PassLaws.{were-good, name-refused, refused-text}
 use mathlib.Core.Path.{refl, sym}
 use borrow.Author.Needs.{needs}
 use Rattle.assemble.proofs.passes.name_and_put.Statement.{statement}
@@ -30,19 +32,18 @@ slice-aggregate-put-indexed : tie.Need-slice-aggregate-put-indexed
 slice-aggregate-put-indexed c = search needs
 
 put-indexed-requires : tie.Need-put-indexed-requires
-put-indexed-requires c κs = let p = c .before .before .before .before .before .before .before .before .before .before .before .before .before .before .before .before .before .before .before .before .before .before .pre in ((p .0 .0, p .0 .1, c .before .before .before .before .before .before .before .before .before .before .before .before .before .index-names .ensures), (λ bytes ends. were-good _ _ _ (c .before .before .before .before .before .before .before .before .read-names .ensures bytes ends) (c .before .before .before .before .before .n .given .1), p .1))
+put-indexed-requires c κs =
+    let p = c .before .before .before .before .before .before .before .before .before .before .before .before .before .before .before .before .before .before .before .before .before .before .pre in
+    ((p .0 .0, p .0 .1, c .before .before .before .before .before .before .before .before .before .before .before .before .before .index-names .ensures), (λ bytes ends. were-good (rw (c .before .before .before .before .before .n .given .1) at (c .before .before .before .before .before .before .before .before .read-names .ensures bytes ends)), p .1))
+
+clear-labels-requires : tie.Need-clear-labels-requires
+clear-labels-requires c κs = search needs
 
 enum-known-n-2 : tie.Need-enum-known-n-2
 enum-known-n-2 c = search needs
 
 clear-requires : tie.Need-clear-requires
 clear-requires c κs = search needs
-
-enum-known-n-3 : tie.Need-enum-known-n-3
-enum-known-n-3 c = search needs
-
-clear-requires-2 : tie.Need-clear-requires-2
-clear-requires-2 c κs = search needs
 
 same-length : tie.Need-same-length
 same-length c = search needs
@@ -54,7 +55,10 @@ same-length-3 : tie.Need-same-length-3
 same-length-3 c = search needs
 
 returns : tie.Need-returns
-returns c = rw (sym (c .before .before .before .before .before .before .before .before .before .before .before .before .before .read-names .kept .1 .1 .1 .1 .1 .0)) (c .before .before .before .before .put-indexed .ensures)
+returns c =
+    let same = c .before .before .before .before .before .before .before .before .before .before .before .before .before .before .before .before .read-names .kept .1 .1 .1 .1 .1 .0 in
+    let put = c .before .before .before .before .before .before .before .put-indexed .ensures in
+    (rw (sym same) (put .0), (rw same at (c .before .clear-labels .ensures), filled (put .1)))
 
 same-length-4 : tie.Need-same-length-4
 same-length-4 c = search needs
@@ -64,17 +68,10 @@ same-length-5 c = search needs
 
 returns-2 : tie.Need-returns-2
 unfolding assembleReport
-returns-2 c = refused-text _ _ 4 _ _ (was-unknown (c .before .before .before .before .before .before .before .before .before .before .before .before .before .before .before .before .before .before .before .before .before .before .pre .1) _ (c .before .before .before .before .before .before .before .before .read-names .ensures _ _) (c .before .before .before .before .before .n2 .given .1)) refl (c .before .before .clear .ensures)
-
-same-length-6 : tie.Need-same-length-6
-same-length-6 c = search needs
-
-same-length-7 : tie.Need-same-length-7
-same-length-7 c = search needs
-
-returns-3 : tie.Need-returns-3
-unfolding assembleReport
-returns-3 c = refused-text _ _ 5 _ _ (was-miscounted (c .before .before .before .before .before .before .before .before .before .before .before .before .before .before .before .before .before .before .before .before .before .before .pre .1) _ (c .before .before .before .before .before .before .before .before .read-names .ensures _ _) (c .before .before .before .before .before .n3 .given .1)) refl (c .before .before .clear2 .ensures)
+returns-2 c =
+    let a = c .before .before .before .before .before .before .before .before .before .before .before .before .before .before .before .before .before .before .before .before .before .before .args in
+    let read = rw (c .before .before .before .before .before .n2 .given .1) at (c .before .before .before .before .before .before .before .before .read-names .ensures (a .bytes .now) (a .ends .now)) in
+    (refused-text _ (name-refused (contextFrom (a .sheet .now) (a .types .now) (a .ops .now) (a .bytes .now) (a .ends .now)) (a .text .now) (c .before .before .before .before .before .before .before .before .before .before .before .before .before .before .before .before .before .before .before .before .before .before .pre .1) (read .0)) (c .before .before .clear .ensures), (read .1, kept refl))
 
 pub name-and-put-spec : {M : Type 1} → statement M
 name-and-put-spec =
@@ -89,17 +86,13 @@ name-and-put-spec =
     enum-known-n
     slice-aggregate-put-indexed
     put-indexed-requires
+    clear-labels-requires
     enum-known-n-2
     clear-requires
-    enum-known-n-3
-    clear-requires-2
     same-length
     same-length-2
     same-length-3
     returns
     same-length-4
     same-length-5
-    returns-2
-    same-length-6
-    same-length-7
-    returns-3)
+    returns-2)

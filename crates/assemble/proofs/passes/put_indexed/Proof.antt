@@ -1,8 +1,8 @@
 use borrow.Author.Tests.{leb-true}
 use Rattle.spec_inputs.specs.Context.{contextFrom}
 use Rattle.assemble.specs.Answers.{assembleReport}
-use Rattle.assemble.proofs.PassLaws.{good-text, labels-known, written-end, refused-body}
-use mathlib.Core.Path.{refl}
+use Rattle.assemble.proofs.PassLaws.{good-text, labels-known, body-end, refused-text}
+use mathlib.Core.Path.{_∙_}
 use borrow.Author.Needs.{needs}
 use Rattle.assemble.proofs.passes.put_indexed.Statement.{statement}
 use Rattle.assemble.proofs.passes.put_indexed.Tie as tie
@@ -41,7 +41,12 @@ same-length-2 : tie.Need-same-length-2
 same-length-2 c = search needs
 
 returns : tie.Need-returns
-returns c = let a = c .before .before .before .before .before .before .before .before .before .before .before .before .before .before .before .before .before .before .before .before .before .before .before .before .before .before .before .args in let p = c .before .before .before .before .before .before .before .before .before .before .before .before .before .before .before .before .before .before .before .before .before .before .before .before .before .before .before .pre .1 in let n = p .0 (a .bytes .now) (a .ends .now) in rw (good-text (contextFrom (a .sheet .now) (a .types .now) (a .ops .now) (a .bytes .now) (a .ends .now)) (a .text .now) (p .1) (n .named)) (written-end _ _ _ _ _ _ (c .before .before .before .before .before .before .before .before .before .before .before .put-instructions .ensures) (c .before .before .before .before .before .before .b .given .1) (n .counted) (c .before .before .before .measure .ensures) (c .measured-answer .ensures))
+returns c =
+    let a = c .before .before .before .before .before .before .before .before .before .before .before .before .before .before .before .before .before .before .before .before .before .before .before .before .before .before .before .args in
+    let p = c .before .before .before .before .before .before .before .before .before .before .before .before .before .before .before .before .before .before .before .before .before .before .before .before .before .before .before .pre .1 in
+    let n = p .0 (a .bytes .now) (a .ends .now) in
+    let m = c .before .before .before .measure .ensures in
+    (rw (good-text (contextFrom (a .sheet .now) (a .types .now) (a .ops .now) (a .bytes .now) (a .ends .now)) (a .text .now) (p .1) (n .named), c .measured-answer .ensures) (body-end _ _ _ _ _ (rw (c .before .before .before .before .before .before .b .given .1) at (c .before .before .before .before .before .before .before .before .before .before .before .put-instructions .ensures)) (n .counted) (m .0) (m .1)), c .before .before .before .before .before .before .before .before .before .before .before .before .before .before .before .before .before .before .index-texts .ensures)
 
 same-length-3 : tie.Need-same-length-3
 same-length-3 c = search needs
@@ -51,7 +56,12 @@ same-length-4 c = search needs
 
 returns-2 : tie.Need-returns-2
 unfolding assembleReport
-returns-2 c = let a = c .before .before .before .before .before .before .before .before .before .before .before .before .before .before .before .before .before .before .before .before .before .before .before .before .before .before .args in let p = c .before .before .before .before .before .before .before .before .before .before .before .before .before .before .before .before .before .before .before .before .before .before .before .before .before .before .pre .1 in let n = p .0 (a .bytes .now) (a .ends .now) in rw (good-text (contextFrom (a .sheet .now) (a .types .now) (a .ops .now) (a .bytes .now) (a .ends .now)) (a .text .now) (p .1) (n .named)) (refused-body _ _ _ _ _ _ (c .before .before .before .before .before .before .before .before .before .before .put-instructions .ensures) (c .before .before .before .before .before .b2 .given .1) refl (c .before .before .clear .ensures))
+returns-2 c =
+    let a = c .before .before .before .before .before .before .before .before .before .before .before .before .before .before .before .before .before .before .before .before .before .before .before .before .before .before .args in
+    let p = c .before .before .before .before .before .before .before .before .before .before .before .before .before .before .before .before .before .before .before .before .before .before .before .before .before .before .pre .1 in
+    let put = c .before .before .before .before .before .before .before .before .before .before .put-instructions in
+    let x = good-text (contextFrom (a .sheet .now) (a .types .now) (a .ops .now) (a .bytes .now) (a .ends .now)) (a .text .now) (p .1) (p .0 (a .bytes .now) (a .ends .now) .named) in
+    (refused-text _ (x ∙ (rw (c .before .before .before .before .before .b2 .given .1) at (put .ensures))) (rw (put .kept .1 .1 .1 .1 .1 .1 .1 .1 .1 .1 .1 .0) at (c .before .before .clear .ensures)), c .before .before .before .before .before .before .before .before .before .before .before .before .before .before .before .before .before .index-texts .ensures)
 
 pub put-indexed-spec : {M : Type 1} → statement M
 put-indexed-spec =

@@ -29,7 +29,7 @@ same-length : tie.Need-same-length
 same-length c = search needs
 
 returns-3 : tie.Need-returns-3
-returns-3 c = λ labels offset code f n. let a = c .before .before .before .before .before .before .before .before .before .before .args in of-string (a .bytes .now) (a .ends .now) labels offset code (a .t .now) (f ∙ c .before .before .before .before .match .keys3) (c .before .before .string-value .ensures)
+returns-3 c = λ labels offset code f n. let a = c .before .before .before .before .before .before .before .before .before .before .args in of-string (a .bytes .now) (a .ends .now) labels offset code (a .t .now) (f ∙ c .before .before .before .before .match .keys3) (c .before .before .string-value .ensures .0)
 
 returns-4 : tie.Need-returns-4
 returns-4 c = λ labels offset code f n. let a = c .before .before .before .before .before .before .before .args in of-immediate (a .bytes .now) (a .ends .now) labels offset code (a .t .now) (f ∙ c .before .match .keys4) (c .signed-value .ensures)

@@ -6,7 +6,7 @@ use Rattle.spec_body.specs.Decode.{rowAt}
 use Rattle.spec_sheet.specs.Row.{lengthOf}
 use Rattle.decode.specs.Bodies.{bodyAnswer}
 use Rattle.decode.proofs.TableLaws.{length-in}
-use Rattle.decode.proofs.BodyLoop.{Going, start, ended, stopped, broken, turn, not-beyond, not-cut, all-written}
+use Rattle.decode.proofs.BodyLoop.{Going, start, ended, stopped, broken, turn, not-whole, all-written}
 use Rattle.decode.specs.declared.body.Body.the-variants.{Records}
 use borrow.Author.Needs.{needs}
 use Rattle.decode.proofs.body.decode_body.Statement.{statement}
@@ -41,7 +41,7 @@ unfolding bodyAnswer
 returns c =
     let l = c .before .before .before .loop in
     let e = stopped _ _ _ _ _ _ _ (l .inv) (c .before .before .loop-test .taken) (c .if1 .taken) in
-    (sym (ap bodyAnswer e), (λ rs f. not-beyond _ _ rs e f))
+    (sym (ap bodyAnswer e), (λ rs f. not-whole _ e f))
 
 mul-row : tie.Need-mul-row Inv-loop μ-loop
 mul-row c = omega (arith, c .before .shared-slice-known2 .given (c .before .before .before .loop .at))
@@ -79,7 +79,7 @@ unfolding bodyAnswer
 returns-2 c =
     let l = c .before .before .before .before .before .before .before .loop in
     let e = broken _ _ _ _ _ _ _ (l .inv) (c .before .before .before .before .before .before .loop-test .taken) (c .before .before .before .before .if1 .left) _ (size-is (c .before)) (c .if2 .taken) in
-    (sym (ap bodyAnswer e), (λ rs f. not-cut _ _ rs e f))
+    (sym (ap bodyAnswer e), (λ rs f. not-whole _ e f))
 
 store-record-requires : tie.Need-store-record-requires Inv-loop μ-loop
 store-record-requires c κs =

@@ -1,9 +1,7 @@
 use Rattle.decode.proofs.DecodeCases.{decode-large, decode-small}
 use Rattle.decode.proofs.BodyAnswers.{refused}
 use Rattle.operation.proofs.UnderLaws.{under-read, under-none}
-use Rattle.decode.specs.declared.answer.DecodeAnswer.the-variants as answer
-use Rattle.decode.specs.Answers.{decodeReport}
-use mathlib.Core.Path.{refl, sym, _∙_}
+use mathlib.Core.Path.{sym, _∙_}
 use borrow.Author.Needs.{needs}
 use Rattle.decode.proofs.instructions.decode.Statement.{statement}
 use Rattle.decode.proofs.instructions.decode.Tie as tie
@@ -15,11 +13,9 @@ same-length : tie.Need-same-length
 same-length c = search needs
 
 returns : tie.Need-returns
-unfolding decodeReport
 returns c =
     let a = c .before .before .before .before .before .before .before .before .args in
-    let w = refused _ answer.TooLarge 18 0 0 (a .out .now) _ (decode-large (a .sheet .now) (a .body .now) (c .before .before .before .before .if1 .taken)) refl (c .before .before .clear-words .ensures) in
-    (w .answer-is, w .words-are)
+    refused (decode-large (a .sheet .now) (a .body .now) (c .before .before .before .before .if1 .taken)) (c .before .before .clear-words .ensures)
 
 read-sheet-requires : tie.Need-read-sheet-requires
 read-sheet-requires c κs = search needs
@@ -51,13 +47,11 @@ same-length-3 : tie.Need-same-length-3
 same-length-3 c = search needs
 
 returns-3 : tie.Need-returns-3
-unfolding decodeReport
 returns-3 c =
     let a = c .before .before .before .before .before .before .before .before .before .before .before .before .before .before .args in
     let s = c .before .before .before .before .before .before .before .read-sheet .ensures in
     let e = decode-small (a .sheet .now) (a .body .now) (c .before .before .before .before .before .before .before .before .before .before .if1 .left) ∙ under-none _ _ (sym (s .0) ∙ c .before .before .before .before .before .read2 .given .1) in
-    let w = refused _ (answer.Malformed (c .before .before .before .before .before .read2 .given .0 .0)) 1 _ 0 (a .out .now) _ e refl (c .before .before .clear-words2 .ensures) in
-    (w .answer-is, w .words-are)
+    refused e (c .before .before .clear-words2 .ensures)
 
 pub decode-spec : {M : Type 1} → statement M
 decode-spec =

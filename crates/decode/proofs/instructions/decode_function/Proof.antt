@@ -1,9 +1,7 @@
 use Rattle.decode.proofs.BodyAnswers.{refused}
 use Rattle.operation.proofs.UnderLaws.{under-read, under-none}
-use Rattle.decode.specs.declared.answer.DecodeAnswer.the-variants as answer
-use Rattle.decode.specs.Answers.{decodeReport}
 use Rattle.spec_body.specs.Operation.{decodeFunction}
-use mathlib.Core.Path.{refl, sym, _∙_}
+use mathlib.Core.Path.{sym, _∙_}
 use borrow.Author.Needs.{needs}
 use Rattle.decode.proofs.instructions.decode_function.Statement.{statement}
 use Rattle.decode.proofs.instructions.decode_function.Tie as tie
@@ -36,13 +34,11 @@ same-length-2 : tie.Need-same-length-2
 same-length-2 c = search needs
 
 returns-2 : tie.Need-returns-2
-unfolding decodeFunction decodeReport
+unfolding decodeFunction
 returns-2 c =
-    let a = c .before .before .before .before .before .before .before .before .before .before .before .before .before .before .args in
     let s = c .before .before .before .before .before .before .before .read-sheet .ensures in
     let e = under-none _ _ (sym (s .0) ∙ c .before .before .before .before .before .read2 .given .1) in
-    let w = refused _ (answer.Malformed (c .before .before .before .before .before .read2 .given .0 .0)) 1 _ 0 (a .out .now) _ e refl (c .before .before .clear-words .ensures) in
-    (w .answer-is, w .words-are)
+    refused e (c .before .before .clear-words .ensures)
 
 pub decode-function-spec : {M : Type 1} → statement M
 decode-function-spec =

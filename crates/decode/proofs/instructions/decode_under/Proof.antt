@@ -1,9 +1,7 @@
-use Rattle.decode.specs.declared.answer.DecodeAnswer.the-variants as answer
-use Rattle.decode.proofs.BodyAnswers.{too-few, enough, refused, was-beyond, was-cut}
-use Rattle.decode.specs.Answers.{decodeReport}
+use Rattle.decode.proofs.BodyAnswers.{too-few, enough, refused, was-refused}
 use lib.ListN.{replicate}
 use Prim.Native.Nat.{ℕ}
-use mathlib.Core.Path.{refl, sym, _∙_, ap}
+use mathlib.Core.Path.{sym, _∙_, ap}
 use borrow.Author.Needs.{needs}
 use Rattle.decode.proofs.instructions.decode_under.Statement.{statement}
 use Rattle.decode.proofs.instructions.decode_under.Tie as tie
@@ -25,20 +23,13 @@ returns c =
     let a = c .before .before .before .before .before .before .before .before .before .before .before .before .before .before .args in
     let b = c .before .before .before .before .before .before .before .before .before .before .decode-body in
     let z = c .before .before .clear-words .ensures ∙ ap (λ (n : ℕ). replicate n 0) (b .kept .1 .1 .1 .0) in
-    let w = too-few _ _ (a .out .now) _ (b .ensures .1) (sym (b .ensures .0) ∙ c .before .before .before .before .before .before .b .given .1) (c .before .before .before .before .if1 .taken) _ z in
-    (w .answer-is, w .words-are)
+    too-few _ _ (a .out .now) _ (b .ensures .1) (sym (b .ensures .0) ∙ c .before .before .before .before .before .before .b .given .1) (c .before .before .before .before .if1 .taken) _ z
 
 enum-known-b-2 : tie.Need-enum-known-b-2
 enum-known-b-2 c = search needs
 
 clear-words-requires-2 : tie.Need-clear-words-requires-2
 clear-words-requires-2 c κs = search needs
-
-enum-known-b-3 : tie.Need-enum-known-b-3
-enum-known-b-3 c = search needs
-
-clear-words-requires-3 : tie.Need-clear-words-requires-3
-clear-words-requires-3 c κs = search needs
 
 same-length-2 : tie.Need-same-length-2
 same-length-2 c = search needs
@@ -47,32 +38,15 @@ returns-2 : tie.Need-returns-2
 returns-2 c =
     let a = c .before .before .before .before .before .before .before .before .before .before .args in
     let b = c .before .before .before .before .before .before .decode-body in
-    let w = enough _ _ (a .out .now) _ (b .ensures .1) (sym (b .ensures .0) ∙ c .before .before .b .given .1) (c .if1 .left) in
-    (w .answer-is, w .words-are)
+    enough _ _ (a .out .now) _ (b .ensures .1) (sym (b .ensures .0) ∙ c .before .before .b .given .1) (c .if1 .left)
 
 same-length-3 : tie.Need-same-length-3
 same-length-3 c = search needs
 
 returns-3 : tie.Need-returns-3
-unfolding decodeReport
 returns-3 c =
-    let a = c .before .before .before .before .before .before .before .before .before .before .before .before .before .args in
     let b = c .before .before .before .before .before .before .before .before .before .decode-body in
-    let z = c .before .before .clear-words2 .ensures ∙ ap (λ (n : ℕ). replicate n 0) (b .kept .1 .1 .1 .0) in
-    let w = refused _ (answer.Beyond (c .before .before .before .before .before .b2 .given .0 .0)) 13 _ 0 (a .out .now) _ (was-beyond _ _ (sym (b .ensures .0) ∙ c .before .before .before .before .before .b2 .given .1)) refl z in
-    (w .answer-is, w .words-are)
-
-same-length-4 : tie.Need-same-length-4
-same-length-4 c = search needs
-
-returns-4 : tie.Need-returns-4
-unfolding decodeReport
-returns-4 c =
-    let a = c .before .before .before .before .before .before .before .before .before .before .before .before .before .args in
-    let b = c .before .before .before .before .before .before .before .before .before .decode-body in
-    let z = c .before .before .clear-words3 .ensures ∙ ap (λ (n : ℕ). replicate n 0) (b .kept .1 .1 .1 .0) in
-    let w = refused _ (answer.Cut (c .before .before .before .before .before .b3 .given .0 .0)) 14 _ 0 (a .out .now) _ (was-cut _ _ (sym (b .ensures .0) ∙ c .before .before .before .before .before .b3 .given .1)) refl z in
-    (w .answer-is, w .words-are)
+    refused (was-refused _ (sym (b .ensures .0) ∙ c .before .before .before .before .before .b2 .given .1)) (c .before .before .clear-words2 .ensures ∙ ap (λ (n : ℕ). replicate n 0) (b .kept .1 .1 .1 .0))
 
 pub decode-under-spec : {M : Type 1} → statement M
 decode-under-spec =
@@ -85,11 +59,7 @@ decode-under-spec =
     returns
     enum-known-b-2
     clear-words-requires-2
-    enum-known-b-3
-    clear-words-requires-3
     same-length-2
     returns-2
     same-length-3
-    returns-3
-    same-length-4
-    returns-4)
+    returns-3)

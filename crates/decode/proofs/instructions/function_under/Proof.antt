@@ -1,8 +1,6 @@
-use mathlib.Core.Path.{refl, sym}
+use mathlib.Core.Path.{sym}
 use Rattle.decode.proofs.DecodeCases.{outcomeAt, function-as}
 use Rattle.decode.proofs.BodyAnswers.{refused}
-use Rattle.decode.specs.declared.answer.DecodeAnswer.the-variants as answer
-use Rattle.decode.specs.Answers.{decodeReport}
 use borrow.Author.Needs.{needs}
 use Rattle.decode.proofs.instructions.function_under.Statement.{statement}
 use Rattle.decode.proofs.instructions.function_under.Tie as tie
@@ -19,17 +17,11 @@ part-of-requires c κs = search needs
 decode-under-requires : tie.Need-decode-under-requires
 decode-under-requires c κs = search needs
 
-enum-told : tie.Need-enum-told
-enum-told c = search needs
+enum-known-place-2 : tie.Need-enum-known-place-2
+enum-known-place-2 c = search needs
 
 clear-words-requires : tie.Need-clear-words-requires
 clear-words-requires c κs = search needs
-
-enum-told-2 : tie.Need-enum-told-2
-enum-told-2 c = search needs
-
-clear-words-requires-2 : tie.Need-clear-words-requires-2
-clear-words-requires-2 c κs = search needs
 
 same-length : tie.Need-same-length
 same-length c = search needs
@@ -45,23 +37,11 @@ same-length-2 : tie.Need-same-length-2
 same-length-2 c = search needs
 
 returns-2 : tie.Need-returns-2
-unfolding outcomeAt decodeReport
+unfolding outcomeAt
 returns-2 c =
-    let a = c .before .before .before .before .before .before .before .before .before .before .args in
-    let e = function-as (a .types .now) (a .last) (a .functions .now) (a .area .now) (a .base) (a .id) (c .before .before .before .before .before .before .locate .ensures .0) (c .before .before .before .before .enum-told .given .1) in
-    let w = refused _ answer.TooLarge 18 0 0 (a .out .now) _ e refl (c .before .before .clear-words .ensures) in
-    (w .answer-is, w .words-are)
-
-same-length-3 : tie.Need-same-length-3
-same-length-3 c = search needs
-
-returns-3 : tie.Need-returns-3
-unfolding outcomeAt decodeReport
-returns-3 c =
-    let a = c .before .before .before .before .before .before .before .before .before .before .args in
-    let e = function-as (a .types .now) (a .last) (a .functions .now) (a .area .now) (a .base) (a .id) (c .before .before .before .before .before .before .locate .ensures .0) (c .before .before .before .before .enum-told2 .given .1) in
-    let w = refused _ (answer.NoFunction (a .id)) 20 (a .id) 0 (a .out .now) _ e refl (c .before .before .clear-words2 .ensures) in
-    (w .answer-is, w .words-are)
+    let a = c .before .before .before .before .before .before .before .before .before .before .before .args in
+    let e = function-as (a .types .now) (a .last) (a .functions .now) (a .area .now) (a .base) (a .id) (c .before .before .before .before .before .before .before .locate .ensures .0) (c .before .before .before .before .before .place2 .given .1) in
+    refused e (c .before .before .clear-words .ensures)
 
 pub function-under-spec : {M : Type 1} → statement M
 function-under-spec =
@@ -71,13 +51,9 @@ function-under-spec =
     enum-known-place
     part-of-requires
     decode-under-requires
-    enum-told
+    enum-known-place-2
     clear-words-requires
-    enum-told-2
-    clear-words-requires-2
     same-length
     returns
     same-length-2
-    returns-2
-    same-length-3
-    returns-3)
+    returns-2)

@@ -1,4 +1,4 @@
-use Rattle.encode.proofs.EncodeAnswers.{encode-read, encode-none}
+use Rattle.encode.proofs.EncodeAnswers.{refused, encode-read, encode-none}
 use Rattle.sheet.proofs.SheetAnswers.{few-opcodes}
 use native.Mathlib.Omega.{arith}
 use mathlib.Core.Path.{sym, _∙_}
@@ -38,8 +38,7 @@ same-length-2 c = search needs
 returns-2 : tie.Need-returns-2
 returns-2 c =
     let a = c .before .before .before .before .before .before .before .before .before .before .before .before .before .args in
-    let e = encode-none (a .sheet .now) (a .words .now) _ (a .out .now) (sym (c .before .before .before .before .before .before .before .read-sheet .ensures .0) ∙ c .before .before .before .before .before .s2 .given .1) in
-    (e .0, c .before .before .clear .ensures ∙ e .1)
+    refused (encode-none (a .sheet .now) (a .words .now) (sym (c .before .before .before .before .before .before .before .read-sheet .ensures .0) ∙ c .before .before .before .before .before .s2 .given .1)) (c .before .before .clear .ensures)
 
 pub encode-spec : {M : Type 1} → statement M
 encode-spec =

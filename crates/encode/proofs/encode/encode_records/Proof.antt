@@ -2,7 +2,7 @@ use mathlib.Core.Path.{refl}
 use native.Mathlib.Omega.{arith}
 use Prim.Native.Nat.{_-_}
 use Rattle.encode.proofs.AheadLaws.{ahead-length}
-use Rattle.encode.proofs.RecordsLoop.{Going, start, turn, stops, cut, ended, other-tag}
+use Rattle.encode.proofs.RecordsLoop.{Going, start, turn, stops, cut, ended}
 use borrow.Author.Needs.{needs}
 use Rattle.encode.proofs.encode.encode_records.Statement.{statement}
 use Rattle.encode.proofs.encode.encode_records.Tie as tie
@@ -36,15 +36,18 @@ encode-record-requires c κs = search needs
 enum-known-r : tie.Need-enum-known-r Inv-loop μ-loop
 enum-known-r c = search needs
 
+enum-told : tie.Need-enum-told Inv-loop μ-loop
+enum-told c = search needs
+
 same-length : tie.Need-same-length Inv-loop μ-loop
 same-length c =
-    let e = ahead-length (c .before .before .before .before .before .before .before .before .loop .inv .wrote) in
+    let e = ahead-length (c .before .before .before .before .before .before .before .before .before .loop .inv .wrote) in
     search needs
 
 returns : tie.Need-returns Inv-loop μ-loop
 returns c =
-    let l = c .before .before .before .before .before .before .before .before .loop in
-    stops _ _ _ _ _ _ _ (l .inv) (c .before .before .before .before .before .before .before .loop-test .taken) _ refl _ _ (c .before .before .before .encode-record .ensures) (λ n q. other-tag (rw q at (c .match .keys2)))
+    let l = c .before .before .before .before .before .before .before .before .before .loop in
+    stops _ _ _ _ _ _ _ (l .inv) (c .before .before .before .before .before .before .before .before .loop-test .taken) _ refl _ _ (c .before .before .before .before .encode-record .ensures) (c .enum-told .given .1)
 
 add-i : tie.Need-add-i Inv-loop μ-loop
 add-i c = search needs
@@ -82,6 +85,7 @@ encode-records-spec =
     sub-encode-record-2
     encode-record-requires
     enum-known-r
+    enum-told
     same-length
     returns
     add-i

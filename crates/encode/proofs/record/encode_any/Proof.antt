@@ -1,6 +1,6 @@
 use Prim.Native.Nat.{_*_}
 use borrow.Author.Tests.{not-true, not-false}
-use Rattle.encode.proofs.RecordLaws.{shape-bad, opcode-beyond, count-other, operands-to, operands-misfit}
+use Rattle.encode.proofs.RecordLaws.{shape-bad, opcode-beyond, count-other, operands-written}
 use mathlib.Core.Path.{sym, _∙_}
 use borrow.Author.Needs.{needs}
 use Rattle.encode.proofs.record.encode_any.Statement.{statement}
@@ -63,29 +63,15 @@ put-byte-requires c κs = search needs
 encode-operands-requires : tie.Need-encode-operands-requires
 encode-operands-requires c κs = search needs
 
-enum-known-w : tie.Need-enum-known-w
-enum-known-w c = search needs
-
-enum-known-w-2 : tie.Need-enum-known-w-2
-enum-known-w-2 c = search needs
-
 same-length : tie.Need-same-length
 same-length c = search needs
 
 returns-4 : tie.Need-returns-4
 returns-4 c =
-    let a = c .before .before .before .before .before .before .before .before .before .before .before .before .before .before .before .before .before .before .before .before .before .args in
-    operands-to (a .types .now) (a .last) (a .i) (20 * a .i) (a .words .now) _ _ _ (sym (c .before .before .before .before .before .before .before .before .before .before .before .before .before .before .before .before .before .before .good-shape .ensures) ∙ not-false _ (c .before .before .before .before .before .before .before .before .before .before .before .before .before .before .before .before .before .if1 .left)) (c .before .before .before .before .before .before .before .before .before .before .before .before .before .before .before .if2 .left) (c .before .before .before .before .before .before .before .before .before .before .before .if3 .left ∙ c .before .before .before .before .before .before .before .before .before .before .before .before .operand-count .ensures)
-    _ _ (c .before .before .before .before .before .before .before .before .before .put-byte .ensures) _ (c .before .before .before .before .before .encode-operands .ensures) _ (c .before .w .given .1)
-
-same-length-2 : tie.Need-same-length-2
-same-length-2 c = search needs
-
-returns-5 : tie.Need-returns-5
-returns-5 c =
-    let a = c .before .before .before .before .before .before .before .before .before .before .before .before .before .before .before .before .before .before .before .before .before .args in
-    operands-misfit (a .types .now) (a .last) (a .i) (20 * a .i) (a .words .now) _ _ _ (sym (c .before .before .before .before .before .before .before .before .before .before .before .before .before .before .before .before .before .before .good-shape .ensures) ∙ not-false _ (c .before .before .before .before .before .before .before .before .before .before .before .before .before .before .before .before .before .if1 .left)) (c .before .before .before .before .before .before .before .before .before .before .before .before .before .before .before .if2 .left) (c .before .before .before .before .before .before .before .before .before .before .before .if3 .left ∙ c .before .before .before .before .before .before .before .before .before .before .before .before .operand-count .ensures)
-    _ _ (c .before .before .before .before .before .before .before .before .before .put-byte .ensures) _ (c .before .before .before .before .before .encode-operands .ensures) _ (c .before .w2 .given .1)
+    let a = c .before .before .before .before .before .before .before .before .before .before .before .before .before .before .before .before .before .before .args in
+    let good = sym (c .before .before .before .before .before .before .before .before .before .before .before .before .before .before .before .good-shape .ensures) ∙ not-false _ (c .before .before .before .before .before .before .before .before .before .before .before .before .before .before .if1 .left) in
+    let counted = c .before .before .before .before .before .before .before .before .if3 .left ∙ c .before .before .before .before .before .before .before .before .before .operand-count .ensures in
+    operands-written (a .types .now) (a .last) (a .i) (20 * a .i) (a .words .now) _ _ _ good (c .before .before .before .before .before .before .before .before .before .before .before .before .if2 .left) counted _ _ (c .before .before .before .before .before .before .put-byte .ensures) _ (c .before .before .encode-operands .ensures)
 
 pub encode-any-spec : {M : Type 1} → statement M
 encode-any-spec =
@@ -108,9 +94,5 @@ encode-any-spec =
     cast-put-byte
     put-byte-requires
     encode-operands-requires
-    enum-known-w
-    enum-known-w-2
     same-length
-    returns-4
-    same-length-2
-    returns-5)
+    returns-4)

@@ -1,6 +1,6 @@
 use native.Mathlib.Omega.{arith}
 use mathlib.Core.Path.{sym, _∙_}
-use Rattle.hasm_labels.proofs.NameLaws.{row-inside, name-unknown, name-miscounted, name-sized}
+use Rattle.hasm_labels.proofs.NameLaws.{row-below, name-unknown, name-miscounted, name-sized}
 use borrow.Author.Needs.{needs}
 use Rattle.hasm_labels.proofs.instruction_name.read_name.Statement.{statement}
 use Rattle.hasm_labels.proofs.instruction_name.read_name.Tie as tie
@@ -27,16 +27,15 @@ enum-told : tie.Need-enum-told
 enum-told c = search needs
 
 returns : tie.Need-returns
-returns c = λ bytes ends. name-unknown _ (c .before .before .before .before .before .before .before .before .args .s .now) (c .before .before .before .before .skip .result) (c .before .before .before .before .skip .ensures .0) (sym (c .enum-told .given .1) ∙ c .before .before .find-indexed .ensures)
-
-returns-2 : tie.Need-returns-2
-returns-2 c = absurd (row-inside (c .before .before .before .before .before .before .before .before .before .before .before .args .sheet .now) _ (c .before .before .before .before .before .before .before .before .before .before .before .args .ops .now) _ (sym (c .before .before .before .found .given .1) ∙ c .before .before .before .before .before .find-indexed .ensures) (omega arith))
+returns c =
+    let a = c .before .before .before .before .before .before .before .before .args in
+    λ bytes ends. name-unknown _ (a .n) (a .s .now) (c .before .before .before .before .skip .result) (c .before .before .before .before .skip .ensures .0) (sym (c .enum-told .given .1) ∙ c .before .before .find-indexed .ensures)
 
 mul-row : tie.Need-mul-row
-mul-row c = search needs
+mul-row c = let below = row-below (c .before .before .before .before .before .before .before .before .before .before .args .sheet .now) _ (c .before .before .before .before .before .before .before .before .before .before .args .ops .now) _ (sym (c .before .before .found .given .1) ∙ c .before .before .before .before .find-indexed .ensures) (omega (arith, c .-rows .given)) in search (needs, below)
 
 element-copy-out-row : tie.Need-element-copy-out-row
-element-copy-out-row c = search needs
+element-copy-out-row c = row-below (c .before .before .before .before .before .before .before .before .before .before .args .sheet .now) _ (c .before .before .before .before .before .before .before .before .before .before .args .ops .now) _ (sym (c .before .before .found .given .1) ∙ c .before .before .before .before .find-indexed .ensures) (omega (arith, c .-rows .given))
 
 skip-requires-2 : tie.Need-skip-requires-2
 skip-requires-2 c κs = search needs
@@ -56,14 +55,18 @@ count-operands-requires c κs = search needs
 operand-count-requires : tie.Need-operand-count-requires
 operand-count-requires c κs = search needs
 
-returns-3 : tie.Need-returns-3
-returns-3 c = λ bytes ends. name-miscounted _ (c .before .before .before .before .before .before .before .before .before .before .before .before .before .before .before .before .before .args .s .now) (c .before .before .before .before .before .before .before .before .before .before .before .before .before .skip .result) (c .before .before .before .before .before .before .before .before .before .before .before .before .before .skip .ensures .0) _ (sym (c .before .before .before .before .before .before .before .before .before .found .given .1) ∙ c .before .before .before .before .before .before .before .before .before .before .before .find-indexed .ensures) (c .before .before .before .before .skip2 .result) (c .before .before .before .before .skip2 .ensures .0) _ (c .before .before .count-operands .ensures) (λ e. c .if2 .taken (e ∙ sym (c .before .operand-count .ensures)))
+returns-2 : tie.Need-returns-2
+returns-2 c =
+    let a = c .before .before .before .before .before .before .before .before .before .before .before .before .before .before .before .before .args in
+    λ bytes ends. name-miscounted _ (a .n) (a .s .now) (c .before .before .before .before .before .before .before .before .before .before .before .before .skip .result) (c .before .before .before .before .before .before .before .before .before .before .before .before .skip .ensures .0) _ (sym (c .before .before .before .before .before .before .before .before .found .given .1) ∙ c .before .before .before .before .before .before .before .before .before .before .find-indexed .ensures) (c .before .before .before .before .skip2 .result) (c .before .before .before .before .skip2 .ensures .0) _ (c .before .before .count-operands .ensures) (λ e. c .if1 .taken (e ∙ sym (c .before .operand-count .ensures)))
 
 instruction-length-requires : tie.Need-instruction-length-requires
 instruction-length-requires c κs = search needs
 
-returns-4 : tie.Need-returns-4
-returns-4 c = λ bytes ends. name-sized _ (c .before .before .before .before .before .before .before .before .before .before .before .before .before .before .before .before .before .before .args .s .now) (c .before .before .before .before .before .before .before .before .before .before .before .before .before .before .skip .result) (c .before .before .before .before .before .before .before .before .before .before .before .before .before .before .skip .ensures .0) _ (sym (c .before .before .before .before .before .before .before .before .before .before .found .given .1) ∙ c .before .before .before .before .before .before .before .before .before .before .before .before .find-indexed .ensures) (c .before .before .before .before .before .skip2 .result) (c .before .before .before .before .before .skip2 .ensures .0) _ (c .before .before .before .count-operands .ensures) (c .before .if2 .left ∙ c .before .before .operand-count .ensures) _ (c .instruction-length .ensures .0) (c .instruction-length .ensures .1)
+returns-3 : tie.Need-returns-3
+returns-3 c =
+    let a = c .before .before .before .before .before .before .before .before .before .before .before .before .before .before .before .before .before .args in
+    λ bytes ends. name-sized _ (a .n) (a .s .now) (c .before .before .before .before .before .before .before .before .before .before .before .before .before .skip .result) (c .before .before .before .before .before .before .before .before .before .before .before .before .before .skip .ensures .0) _ (sym (c .before .before .before .before .before .before .before .before .before .found .given .1) ∙ c .before .before .before .before .before .before .before .before .before .before .before .find-indexed .ensures) (c .before .before .before .before .before .skip2 .result) (c .before .before .before .before .before .skip2 .ensures .0) _ (c .before .before .before .count-operands .ensures) (c .before .if1 .left ∙ c .before .before .operand-count .ensures) _ (c .instruction-length .ensures .0) (c .instruction-length .ensures .1)
 
 pub read-name-spec : {M : Type 1} → statement M
 read-name-spec =
@@ -77,7 +80,6 @@ read-name-spec =
     enum-known-found
     enum-told
     returns
-    returns-2
     mul-row
     element-copy-out-row
     skip-requires-2
@@ -86,6 +88,6 @@ read-name-spec =
     part-count-operands-end
     count-operands-requires
     operand-count-requires
-    returns-3
+    returns-2
     instruction-length-requires
-    returns-4)
+    returns-3)

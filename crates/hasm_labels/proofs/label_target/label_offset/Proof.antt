@@ -1,9 +1,8 @@
-use mathlib.Core.List.{List, [], _∷_}
+use mathlib.Core.List.{List}
 use mathlib.Core.Path.{ap, sym, _∙_}
-use types.Run.{miss}
 use Rattle.slices.specs.Answers.{foundOf}
 use Rattle.spec_hasm.specs.Assemble.{LabelAt, labelOffset}
-use Rattle.hasm_labels.proofs.TargetLaws.{all-good, label-found, label-missing}
+use Rattle.hasm_labels.proofs.TargetLaws.{not-refused, label-found, label-missing}
 use borrow.Author.Needs.{needs}
 use Rattle.hasm_labels.proofs.label_target.label_offset.Statement.{statement}
 use Rattle.hasm_labels.proofs.label_target.label_offset.Tie as tie
@@ -23,14 +22,23 @@ read-names-requires c κs = search needs
 enum-known-read : tie.Need-enum-known-read
 enum-known-read c = search needs
 
+enum-told : tie.Need-enum-told
+enum-told c = search needs
+
 returns-2 : tie.Need-returns-2
-returns-2 c = λ bytes ends. all-good _ (c .before .before .before .before .before .before .before .before .before .args .text .now) (c .before .before .before .before .before .before .before .before .before .args .t .now) _ (c .before .before .read-names .result) (c .before .before .read-names .ensures bytes ends) (c .before .before .before .before .before .before .before .before .before .pre .1 .1 bytes ends .named) (λ i b o q. absurd (miss (1 ∷ 2 ∷ []) 0 tt (rw q at (c .match .keys2))))
+returns-2 c =
+    let a = c .before .before .before .before .before .before .before .before .before .before .args in
+    λ bytes ends. not-refused _ (a .text .now) (rw (c .enum-told .given .1) at (c .before .before .before .read-names .ensures bytes ends) .0) (c .before .before .before .before .before .before .before .before .before .before .pre .1 .1 bytes ends .named)
 
 returns-3 : tie.Need-returns-3
-returns-3 c = λ bytes ends. sym (ap foundOf (label-found _ (c .before .before .before .before .before .before .before .before .before .before .before .before .args .text .now) (c .before .before .before .before .before .before .before .before .before .before .before .before .args .t .now) _ _ _ _ (rw (c .before .before .read .given .1) at (c .before .before .before .before .before .read-names .ensures bytes ends)) (c .if2 .taken)))
+returns-3 c =
+    let a = c .before .before .before .before .before .before .before .before .before .before .before .before .args in
+    λ bytes ends. sym (ap foundOf (label-found _ (a .text .now) (a .t .now) _ _ _ _ _ (rw (c .before .before .read .given .1) at (c .before .before .before .before .before .read-names .ensures bytes ends)) (c .if2 .taken)))
 
 returns-4 : tie.Need-returns-4
-returns-4 c = λ bytes ends. sym (ap foundOf (label-missing _ (c .before .before .before .before .before .before .before .before .before .before .before .before .args .text .now) (c .before .before .before .before .before .before .before .before .before .before .before .before .args .t .now) _ _ _ _ (rw (c .before .before .read .given .1) at (c .before .before .before .before .before .read-names .ensures bytes ends)) (c .if2 .left)))
+returns-4 c =
+    let a = c .before .before .before .before .before .before .before .before .before .before .before .before .args in
+    λ bytes ends. sym (ap foundOf (label-missing _ (a .text .now) (a .t .now) _ _ _ _ _ (rw (c .before .before .read .given .1) at (c .before .before .before .before .before .read-names .ensures bytes ends)) (c .if2 .left)))
 
 pub label-offset-spec : {M : Type 1} → statement M
 label-offset-spec =
@@ -41,6 +49,7 @@ label-offset-spec =
     slice-aggregate-read-names
     read-names-requires
     enum-known-read
+    enum-told
     returns-2
     returns-3
     returns-4)

@@ -17,8 +17,8 @@ enum-told c = search needs
 enum-known-statement : tie.Need-enum-known-statement
 enum-known-statement c = search needs
 
-add-t18 : tie.Need-add-t18
-add-t18 c = let z = label-near (c .before .before .before .before .before .before .before .before .before .args .text .now) (c .before .before .before .before .before .before .before .before .before .args .at) (c .before .before .before .before .before .before .before .before .before .args .end) _ _ _ _ (c .before .before .before .before .line-of .ensures) (rw (c .before .statement .given .1) at (c .before .before .before .read-statement .ensures [] [] [])) in omega (arith, z, c .before .before .before .before .before .before .before .before .before .pre .1 .near, c .before .before .before .before .before .before .before .before .before .pre .1 .short, c .before .before .before .before .before .before .before .before .before .pre .1 .inside)
+add-t19 : tie.Need-add-t19
+add-t19 c = let z = label-near (c .before .before .before .before .before .before .before .before .before .args .text .now) (c .before .before .before .before .before .before .before .before .before .args .at) (c .before .before .before .before .before .before .before .before .before .args .end) _ _ _ _ (c .before .before .before .before .line-of .ensures) (rw (c .before .statement .given .1) at (c .before .before .before .read-statement .ensures [] [] [])) in omega (arith, z, c .before .before .before .before .before .before .before .before .before .pre .1 .near, c .before .before .before .before .before .before .before .before .before .pre .1 .short, c .before .before .before .before .before .before .before .before .before .pre .1 .inside)
 
 enum-known-statement-2 : tie.Need-enum-known-statement-2
 enum-known-statement-2 c = search needs
@@ -36,16 +36,25 @@ take-code-requires : tie.Need-take-code-requires
 take-code-requires c κs = search needs
 
 returns : tie.Need-returns
-returns c = λ bytes ends n g. line-nothing _ (c .before .before .before .before .before .before .before .before .args .text .now) (c .before .before .before .before .before .before .before .before .args .t .now) (c .before .before .before .before .before .before .before .before .args .at) n (c .before .before .before .before .before .before .before .before .args .end) (c .before .before .before .before .before .before .before .before .args .p) (c .before .before .before .before .before .before .before .before .args .labels .now) g (c .before .before .before .before .before .before .before .before .pre .1 .inside) (c .before .before .before .before .before .before .before .before .pre .1 .ends) (c .before .before .before .before .before .before .before .before .pre .1 .near) _ (c .before .before .before .line-of .ensures) (rw (c .enum-told .given .1) at (c .before .before .read-statement .ensures (c .before .before .before .before .before .before .before .before .args .types .now) bytes ends))
+returns c =
+    let a = c .before .before .before .before .before .before .before .before .args in
+    let q = c .before .before .before .before .before .before .before .before .pre .1 in
+    λ bytes ends slots g. line-nothing _ (a .text .now) (a .t .now) slots (a .at) (a .n) (a .end) (a .p) (a .labels .now) g (q .inside) (q .ends) (q .near) _ (c .before .before .before .line-of .ensures) (rw (c .enum-told .given .1) at (c .before .before .read-statement .ensures (a .types .now) bytes ends))
 
 returns-2 : tie.Need-returns-2
-returns-2 c = λ bytes ends n g. line-label _ (c .before .before .before .before .before .before .before .before .before .args .text .now) (c .before .before .before .before .before .before .before .before .before .args .t .now) (c .before .before .before .before .before .before .before .before .before .args .at) n (c .before .before .before .before .before .before .before .before .before .args .end) (c .before .before .before .before .before .before .before .before .before .args .p) (c .before .before .before .before .before .before .before .before .before .args .labels .now) g (c .before .before .before .before .before .before .before .before .before .pre .1 .inside) (c .before .before .before .before .before .before .before .before .before .pre .1 .ends) (c .before .before .before .before .before .before .before .before .before .pre .1 .near) _ (c .before .before .before .before .line-of .ensures) (c .before .before .before .before .before .before .before .before .before .pre .1 .short) _ _ (rw (c .before .statement .given .1) at (c .before .before .before .read-statement .ensures (c .before .before .before .before .before .before .before .before .before .args .types .now) bytes ends))
+returns-2 c =
+    let a = c .before .before .before .before .before .before .before .before .before .args in
+    let q = c .before .before .before .before .before .before .before .before .before .pre .1 in
+    λ bytes ends slots g. line-label _ (a .text .now) (a .t .now) slots (a .at) (a .n) (a .end) (a .p) (a .labels .now) g (q .inside) (q .ends) (q .near) _ (c .before .before .before .before .line-of .ensures) (q .short) _ _ (rw (c .before .statement .given .1) at (c .before .before .before .read-statement .ensures (a .types .now) bytes ends))
 
 same-length : tie.Need-same-length
 same-length c = search needs
 
 returns-3 : tie.Need-returns-3
-returns-3 c = λ bytes ends n g. line-code _ (c .before .before .before .before .before .before .before .before .before .before .before .before .before .args .text .now) (c .before .before .before .before .before .before .before .before .before .before .before .before .before .args .t .now) (c .before .before .before .before .before .before .before .before .before .before .before .before .before .args .at) n (c .before .before .before .before .before .before .before .before .before .before .before .before .before .args .end) (c .before .before .before .before .before .before .before .before .before .before .before .before .before .args .p) (c .before .before .before .before .before .before .before .before .before .before .before .before .before .args .labels .now) g (c .before .before .before .before .before .before .before .before .before .before .before .before .before .pre .1 .inside) (c .before .before .before .before .before .before .before .before .before .before .before .before .before .pre .1 .ends) (c .before .before .before .before .before .before .before .before .before .before .before .before .before .pre .1 .near) _ (c .before .before .before .before .before .before .before .before .line-of .ensures) _ _ (rw (c .before .before .before .before .before .statement2 .given .1) at (c .before .before .before .before .before .before .before .read-statement .ensures (c .before .before .before .before .before .before .before .before .before .before .before .before .before .args .types .now) bytes ends)) _ _ (c .before .take-code .ensures bytes ends)
+returns-3 c =
+    let a = c .before .before .before .before .before .before .before .before .before .before .before .before .before .args in
+    let q = c .before .before .before .before .before .before .before .before .before .before .before .before .before .pre .1 in
+    λ bytes ends slots g. line-code _ (a .text .now) (a .t .now) slots (a .at) (a .n) (a .end) (a .p) (a .labels .now) g (q .inside) (q .ends) (q .near) _ (c .before .before .before .before .before .before .before .before .line-of .ensures) _ _ (rw (c .before .before .before .before .before .statement2 .given .1) at (c .before .before .before .before .before .before .before .read-statement .ensures (a .types .now) bytes ends)) _ (c .before .take-code .result) (c .before .take-code .ensures bytes ends)
 
 pub take-line-spec : {M : Type 1} → statement M
 take-line-spec =
@@ -55,7 +64,7 @@ take-line-spec =
     read-statement-requires
     enum-told
     enum-known-statement
-    add-t18
+    add-t19
     enum-known-statement-2
     sub-take-code
     part-take-code-start

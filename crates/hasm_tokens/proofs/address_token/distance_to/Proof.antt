@@ -27,8 +27,8 @@ is-near-requires c κs = search needs
 returns-2 : tie.Need-returns-2
 returns-2 c = let a = c .before .before .before .before .args in sym (ap tokenAnswer (distance-far (a .width) (a .offset) (a .target) _ (c .before .before .before .wrapping-distance .ensures) (c .before .before .if1 .left) (sym (c .before .is-near .ensures) ∙ not-true _ (c .if2 .taken))))
 
-cast-t10 : tie.Need-cast-t10
-cast-t10 c = search needs
+cast-t11 : tie.Need-cast-t11
+cast-t11 c = search needs
 
 returns-3 : tie.Need-returns-3
 returns-3 c = let a = c .before .before .before .before .args in sym (ap tokenAnswer (distance-near (a .width) (a .offset) (a .target) _ (c .before .before .before .wrapping-distance .ensures) (c .before .before .if1 .left) (sym (c .before .is-near .ensures) ∙ not-false _ (c .if2 .left))))
@@ -44,5 +44,5 @@ distance-to-spec =
     returns
     is-near-requires
     returns-2
-    cast-t10
+    cast-t11
     returns-3)

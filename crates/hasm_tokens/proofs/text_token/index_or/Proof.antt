@@ -11,10 +11,10 @@ enum-told : tie.Need-enum-told
 enum-told c = search needs
 
 returns : tie.Need-returns
-returns c = sym (ap (indexOr (c .before .before .args .number)) (c .enum-told .given .1))
+returns c = sym (ap (indexOr (c .before .before .args .fault)) (c .enum-told .given .1))
 
 returns-2 : tie.Need-returns-2
-returns-2 c = sym (ap (indexOr (c .before .before .before .args .number)) (c .before .found .given .1))
+returns-2 c = sym (ap (indexOr (c .before .before .before .args .fault)) (c .before .found .given .1))
 
 pub index-or-spec : {M : Type 1} → statement M
 index-or-spec = tie.close (tie.spec enum-known-found enum-told returns returns-2)

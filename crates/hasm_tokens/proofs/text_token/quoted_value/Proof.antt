@@ -1,4 +1,4 @@
-use Rattle.hasm_tokens.proofs.TextLaws.{unescape-literal, written-room, written-front, text-read}
+use Rattle.hasm_tokens.proofs.TextLaws.{unescape-literal, written-room, written-front, work-meant, work-literal, text-read}
 use lib.Seq.{length-take-le}
 use mathlib.Core.Path.{sym, _∙_}
 use borrow.Author.Needs.{needs}
@@ -15,7 +15,10 @@ index-or-requires : tie.Need-index-or-requires
 index-or-requires c κs = search needs
 
 returns : tie.Need-returns
-returns c = let a = c .before .before .before .before .before .before .before .before .before .args in text-read (a .bytes .now) (a .ends .now) (a .inside .now) (sym (unescape-literal (a .inside .now) (sym (c .before .before .before .all-literal .ensures) ∙ c .before .before .if1 .taken))) (c .before .lookup-indexed .ensures) (c .index-or .ensures)
+returns c =
+    let a = c .before .before .before .before .before .before .before .before .before .args in
+    let literal = sym (c .before .before .before .all-literal .ensures) ∙ c .before .before .if1 .taken in
+    (text-read (a .bytes .now) (a .ends .now) (a .inside .now) (sym (unescape-literal (a .inside .now) literal)) (c .before .lookup-indexed .ensures) (c .index-or .ensures), work-literal _ _ literal)
 
 put-unescaped-requires : tie.Need-put-unescaped-requires
 put-unescaped-requires c κs = search needs
@@ -36,7 +39,11 @@ same-length : tie.Need-same-length
 same-length c = search needs
 
 returns-2 : tie.Need-returns-2
-returns-2 c = let a = c .before .before .before .before .before .before .before .before .before .before .before .before .before .before .args in text-read (a .bytes .now) (a .ends .now) (a .inside .now) (written-front (a .work .now) (a .inside .now) _ _ (c .before .before .before .before .before .before .before .before .before .before .before .before .before .before .pre .1) (c .before .before .before .before .before .put-unescaped .ensures)) (c .before .lookup-indexed2 .ensures) (c .index-or2 .ensures)
+returns-2 c =
+    let a = c .before .before .before .before .before .before .before .before .before .before .before .before .before .before .args in
+    let room = c .before .before .before .before .before .before .before .before .before .before .before .before .before .before .pre .1 in
+    let put = c .before .before .before .before .before .put-unescaped .ensures in
+    (text-read (a .bytes .now) (a .ends .now) (a .inside .now) (written-front (a .work .now) (a .inside .now) _ _ room put) (c .before .lookup-indexed2 .ensures) (c .index-or2 .ensures), work-meant (a .work .now) (a .inside .now) _ _ room put (sym (c .before .before .before .before .before .before .before .before .all-literal .ensures) ∙ c .before .before .before .before .before .before .before .if1 .left))
 
 pub quoted-value-spec : {M : Type 1} → statement M
 quoted-value-spec =

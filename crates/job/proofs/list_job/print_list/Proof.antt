@@ -1,5 +1,5 @@
 use native.Mathlib.Omega.{arith}
-use Rattle.job_read.proofs.ReadLaws.{was-body, was-bad-body, body-fits, front}
+use Rattle.job.proofs.ReadLaws.{was-body, was-bad-body, body-fits, front}
 use Rattle.job.proofs.PrintLaws.{line-prints}
 use Rattle.job.proofs.ListLaws.{body-prints}
 use borrow.Author.Needs.{needs}
@@ -28,7 +28,7 @@ part-print-listing-end : tie.Need-part-print-listing-end
 part-print-listing-end c = omega (arith, body-fits _ _ _ (was-body (c .before .before .before .before .before .body-at .ensures) (c .before .before .b .given .1)) (c .before .before .before .before .before .before .before .before .before .before .before .before .pre .0))
 
 print-listing-requires : tie.Need-print-listing-requires
-print-listing-requires c κs = (omega (arith, body-fits _ _ _ (was-body (c .before .before .before .before .before .before .before .body-at .ensures) (c .before .before .before .before .b .given .1)) (c .before .before .before .before .before .before .before .before .before .before .before .before .before .before .pre .0)), c .before .before .before .before .before .before .before .before .before .before .before .before .before .before .pre .2, c .before .before .before .before .before .before .before .before .before .before .before .before .before .before .pre .3)
+print-listing-requires c κs = omega (arith, body-fits _ _ _ (was-body (c .before .before .before .before .before .before .before .body-at .ensures) (c .before .before .before .before .b .given .1)) (c .before .before .before .before .before .before .before .before .before .before .before .before .before .before .pre .0))
 
 enum-known-b-2 : tie.Need-enum-known-b-2
 enum-known-b-2 c = search needs

@@ -1,6 +1,6 @@
 use native.Mathlib.Omega.{arith}
 use Rattle.job.proofs.PrintLaws.{line-prints}
-use Rattle.job_read.proofs.ReadLaws.{was-inputs, was-bad-inputs, inputs-fits, front}
+use Rattle.job.proofs.ReadLaws.{was-inputs, was-bad-inputs, inputs-fits, front}
 use Rattle.job.proofs.RunLaws.{list-prints, assemble-prints, inputs-off}
 use borrow.Author.Needs.{needs}
 use Rattle.job.proofs.run.print_job.Statement.{statement}
@@ -31,7 +31,7 @@ part-texts-start : tie.Need-part-texts-start
 part-texts-start c = search needs
 
 part-texts-end : tie.Need-part-texts-end
-part-texts-end c = omega (arith, inputs-fits (c .before .before .before .before .before .before .before .before .before .before .before .before .before .before .before .args .job .now) (c .before .before .before .before .before .before .before .before .before .before .before .before .before .before .before .args .start) (was-inputs (c .before .before .before .before .before .before .inputs-at .ensures) (c .before .before .e .given .1)) (c .before .before .before .before .before .before .before .before .before .before .before .before .before .before .before .pre .0) .1)
+part-texts-end c = omega (arith, inputs-fits (c .before .before .before .before .before .before .before .before .before .before .before .before .before .before .before .args .job .now) (c .before .before .before .before .before .before .before .before .before .before .before .before .before .before .before .args .start) (was-inputs (c .before .before .before .before .before .before .inputs-at .ensures) (c .before .before .e .given .1)) (c .before .before .before .before .before .before .before .before .before .before .before .before .before .before .before .pre) .1)
 
 sub-table-ends : tie.Need-sub-table-ends
 sub-table-ends c = search needs
@@ -40,13 +40,13 @@ part-table-ends-start : tie.Need-part-table-ends-start
 part-table-ends-start c = search needs
 
 part-table-ends-end : tie.Need-part-table-ends-end
-part-table-ends-end c = omega (arith, inputs-fits (c .before .before .before .before .before .before .before .before .before .before .before .before .before .before .before .before .before .args .job .now) (c .before .before .before .before .before .before .before .before .before .before .before .before .before .before .before .before .before .args .start) (was-inputs (c .before .before .before .before .before .before .before .before .inputs-at .ensures) (c .before .before .before .before .e .given .1)) (c .before .before .before .before .before .before .before .before .before .before .before .before .before .before .before .before .before .pre .0) .0)
+part-table-ends-end c = omega (arith, inputs-fits (c .before .before .before .before .before .before .before .before .before .before .before .before .before .before .before .before .before .args .job .now) (c .before .before .before .before .before .before .before .before .before .before .before .before .before .before .before .before .before .args .start) (was-inputs (c .before .before .before .before .before .before .before .before .inputs-at .ensures) (c .before .before .before .before .e .given .1)) (c .before .before .before .before .before .before .before .before .before .before .before .before .before .before .before .before .before .pre) .0)
 
 print-list-requires : tie.Need-print-list-requires
-print-list-requires c κs = let f = inputs-fits (c .before .before .before .before .before .before .before .before .before .before .before .before .before .before .before .before .before .before .before .before .before .before .args .job .now) (c .before .before .before .before .before .before .before .before .before .before .before .before .before .before .before .before .before .before .before .before .before .before .args .start) (was-inputs (c .before .before .before .before .before .before .before .before .before .before .before .before .before .inputs-at .ensures) (c .before .before .before .before .before .before .before .before .before .e .given .1)) (c .before .before .before .before .before .before .before .before .before .before .before .before .before .before .before .before .before .before .before .before .before .before .pre .0) in (c .before .before .before .before .before .before .before .before .before .before .before .before .before .before .before .before .before .before .before .before .before .before .pre .0, f .2, c .before .before .before .before .before .before .before .before .before .before .before .before .before .before .before .before .before .before .before .before .before .before .pre .1, c .before .before .before .before .before .before .before .before .before .before .before .before .before .before .before .before .before .before .before .before .before .before .pre .2)
+print-list-requires c κs = let f = inputs-fits (c .before .before .before .before .before .before .before .before .before .before .before .before .before .before .before .before .before .before .before .before .before .before .args .job .now) (c .before .before .before .before .before .before .before .before .before .before .before .before .before .before .before .before .before .before .before .before .before .before .args .start) (was-inputs (c .before .before .before .before .before .before .before .before .before .before .before .before .before .inputs-at .ensures) (c .before .before .before .before .before .before .before .before .before .e .given .1)) (c .before .before .before .before .before .before .before .before .before .before .before .before .before .before .before .before .before .before .before .before .before .before .pre) in (c .before .before .before .before .before .before .before .before .before .before .before .before .before .before .before .before .before .before .before .before .before .before .pre, f .2)
 
 print-assembled-requires : tie.Need-print-assembled-requires
-print-assembled-requires c κs = let f = inputs-fits (c .before .before .before .before .before .before .before .before .before .before .before .before .before .before .before .before .before .before .before .before .before .before .args .job .now) (c .before .before .before .before .before .before .before .before .before .before .before .before .before .before .before .before .before .before .before .before .before .before .args .start) (was-inputs (c .before .before .before .before .before .before .before .before .before .before .before .before .before .inputs-at .ensures) (c .before .before .before .before .before .before .before .before .before .e .given .1)) (c .before .before .before .before .before .before .before .before .before .before .before .before .before .before .before .before .before .before .before .before .before .before .pre .0) in (c .before .before .before .before .before .before .before .before .before .before .before .before .before .before .before .before .before .before .before .before .before .before .pre .0, omega (arith, f .0))
+print-assembled-requires c κs = let f = inputs-fits (c .before .before .before .before .before .before .before .before .before .before .before .before .before .before .before .before .before .before .before .before .before .before .args .job .now) (c .before .before .before .before .before .before .before .before .before .before .before .before .before .before .before .before .before .before .before .before .before .before .args .start) (was-inputs (c .before .before .before .before .before .before .before .before .before .before .before .before .before .inputs-at .ensures) (c .before .before .before .before .before .before .before .before .before .e .given .1)) (c .before .before .before .before .before .before .before .before .before .before .before .before .before .before .before .before .before .before .before .before .before .before .pre) in (c .before .before .before .before .before .before .before .before .before .before .before .before .before .before .before .before .before .before .before .before .before .before .pre, omega (arith, f .0))
 
 enum-known-e-2 : tie.Need-enum-known-e-2
 enum-known-e-2 c = search needs
@@ -58,13 +58,13 @@ same-length : tie.Need-same-length
 same-length c = search needs
 
 returns : tie.Need-returns
-returns c = let x = c .before .before .before .before .before .before .before .before .before .before .before .before .before .before .before .before .before .before .before .before .before .before .before .before .before .args in let w = was-inputs (c .before .before .before .before .before .before .before .before .before .before .before .before .before .before .before .before .inputs-at .ensures) (c .before .before .before .before .before .before .before .before .before .before .before .before .e .given .1) in let f = inputs-fits (x .job .now) (x .start) w (c .before .before .before .before .before .before .before .before .before .before .before .before .before .before .before .before .before .before .before .before .before .before .before .before .before .pre .0) in list-prints (x .job .now) (x .start) w (c .before .before .before .before .before .before .before .before .before .before .before .before .before .before .before .before .before .before .before .before .before .before .before .before .before .pre .0) (x .lists) _ _ (front (c .before .before .before .before .before .before .before .before .before .before .before .before .e .given .0 .0 .size) (c .before .before .before .before .before .before .before .before .before .before .before .before .before .before .before .before .inputs-at .last .1 .1 .1 .1 .1 .0)) (front (c .before .before .before .before .before .before .before .before .before .before .before .before .e .given .0 .0 .count) (c .before .before .before .before .before .before .before .before .before .before .before .before .before .before .before .before .inputs-at .last .1 .1 .1 .1 .1 .1 .0)) (omega (arith, f .1)) (omega (arith, f .0)) _ _ _ (c .before .before .before .before .before .before .if1 .taken) (c .before .before .print-list .ensures)
+returns c = let x = c .before .before .before .before .before .before .before .before .before .before .before .before .before .before .before .before .before .before .before .before .before .before .before .before .before .args in let w = was-inputs (c .before .before .before .before .before .before .before .before .before .before .before .before .before .before .before .before .inputs-at .ensures) (c .before .before .before .before .before .before .before .before .before .before .before .before .e .given .1) in let f = inputs-fits (x .job .now) (x .start) w (c .before .before .before .before .before .before .before .before .before .before .before .before .before .before .before .before .before .before .before .before .before .before .before .before .before .pre) in list-prints (x .job .now) (x .start) w (c .before .before .before .before .before .before .before .before .before .before .before .before .before .before .before .before .before .before .before .before .before .before .before .before .before .pre) (x .lists) _ _ (front (c .before .before .before .before .before .before .before .before .before .before .before .before .e .given .0 .0 .size) (c .before .before .before .before .before .before .before .before .before .before .before .before .before .before .before .before .inputs-at .last .1 .1 .1 .1 .1 .0)) (front (c .before .before .before .before .before .before .before .before .before .before .before .before .e .given .0 .0 .count) (c .before .before .before .before .before .before .before .before .before .before .before .before .before .before .before .before .inputs-at .last .1 .1 .1 .1 .1 .1 .0)) (omega (arith, f .1)) (omega (arith, f .0)) _ _ _ (c .before .before .before .before .before .before .if1 .taken) (c .before .before .print-list .ensures)
 
 same-length-2 : tie.Need-same-length-2
 same-length-2 c = search needs
 
 returns-2 : tie.Need-returns-2
-returns-2 c = let x = c .before .before .before .before .before .before .before .before .before .before .before .before .before .before .before .before .before .before .before .before .before .before .before .before .before .args in let w = was-inputs (c .before .before .before .before .before .before .before .before .before .before .before .before .before .before .before .before .inputs-at .ensures) (c .before .before .before .before .before .before .before .before .before .before .before .before .e .given .1) in let f = inputs-fits (x .job .now) (x .start) w (c .before .before .before .before .before .before .before .before .before .before .before .before .before .before .before .before .before .before .before .before .before .before .before .before .before .pre .0) in assemble-prints (x .job .now) (x .start) w (c .before .before .before .before .before .before .before .before .before .before .before .before .before .before .before .before .before .before .before .before .before .before .before .before .before .pre .0) (x .lists) _ _ (front (c .before .before .before .before .before .before .before .before .before .before .before .before .e .given .0 .0 .size) (c .before .before .before .before .before .before .before .before .before .before .before .before .before .before .before .before .inputs-at .last .1 .1 .1 .1 .1 .0)) (front (c .before .before .before .before .before .before .before .before .before .before .before .before .e .given .0 .0 .count) (c .before .before .before .before .before .before .before .before .before .before .before .before .before .before .before .before .inputs-at .last .1 .1 .1 .1 .1 .1 .0)) (omega (arith, f .1)) (omega (arith, f .0)) _ _ _ (c .before .before .before .before .before .before .if1 .left) (c .before .before .print-assembled .ensures)
+returns-2 c = let x = c .before .before .before .before .before .before .before .before .before .before .before .before .before .before .before .before .before .before .before .before .before .before .before .before .before .args in let w = was-inputs (c .before .before .before .before .before .before .before .before .before .before .before .before .before .before .before .before .inputs-at .ensures) (c .before .before .before .before .before .before .before .before .before .before .before .before .e .given .1) in let f = inputs-fits (x .job .now) (x .start) w (c .before .before .before .before .before .before .before .before .before .before .before .before .before .before .before .before .before .before .before .before .before .before .before .before .before .pre) in assemble-prints (x .job .now) (x .start) w (c .before .before .before .before .before .before .before .before .before .before .before .before .before .before .before .before .before .before .before .before .before .before .before .before .before .pre) (x .lists) _ _ (front (c .before .before .before .before .before .before .before .before .before .before .before .before .e .given .0 .0 .size) (c .before .before .before .before .before .before .before .before .before .before .before .before .before .before .before .before .inputs-at .last .1 .1 .1 .1 .1 .0)) (front (c .before .before .before .before .before .before .before .before .before .before .before .before .e .given .0 .0 .count) (c .before .before .before .before .before .before .before .before .before .before .before .before .before .before .before .before .inputs-at .last .1 .1 .1 .1 .1 .1 .0)) (omega (arith, f .1)) (omega (arith, f .0)) _ _ _ (c .before .before .before .before .before .before .if1 .left) (c .before .before .print-assembled .ensures)
 
 same-length-3 : tie.Need-same-length-3
 same-length-3 c = search needs

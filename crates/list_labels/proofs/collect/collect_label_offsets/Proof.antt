@@ -1,4 +1,5 @@
-use Rattle.list_labels.proofs.CollectLaws.{met-count, refused-beyond, refused-cut, beyond-not, cut-not, first-marked, near-only, with-far, still-marked}
+use Rattle.list_labels.proofs.CollectLaws.{met-count, was-refused, all-flagged, near-only, with-far, still-flagged}
+use Rattle.list_labels.specs.Readable.{readable}
 use Rattle.list_labels.specs.Collecting.{tables}
 use Rattle.spec_body.specs.Decode.{decodeBody}
 use native.Mathlib.Omega.{arith}
@@ -24,25 +25,21 @@ returns c =
     let x = a .args in
     let w = c .before .before .before .before .before .before .before .walk in
     let v = c .before .before .w .given in
-    let e = tables (x .sheet .now) (x .types .now) (x .ops .now) in
-    let d = decodeBody (x .types .now) (x .last) (x .s .now) in (
-      near-only e d (x .flags .now) _ _ _ _ (w .ensures .0 .0) _ _ (v .1) (w .ensures .1) (a .pre .1) (c .if1 .taken),
-      first-marked e d (x .flags .now) _ _ _ _ (w .ensures .0 .0) _ _ (v .1) (w .ensures .1) (a .pre .1),
+    let e = tables (x .sheet .now) (x .types .now) (x .ops .now) in (
+      near-only e (x .last) (x .s .now) (x .flags .now) _ _ _ _ (w .ensures .0 .0) _ _ (v .1) (w .ensures .1) (a .pre .1) (c .if1 .taken),
+      all-flagged e (readable (x .types .now) (x .last) (x .s .now)) (x .flags .now) _ _ _ (w .ensures .1) (a .pre .1),
     )
 
 count-far-anew-requires : tie.Need-count-far-anew-requires
 count-far-anew-requires c κs = search needs
 
-add-t22 : tie.Need-add-t22
-add-t22 c =
+add-t21 : tie.Need-add-t21
+add-t21 c =
     let w = c .before .before .before .before .before .before .before .before .before .before .before .walk in
     omega (arith, met-count _ (c .before .before .before .before .before .before .w .given .1) (w .ensures .0 .1), c .before .before .count-far-anew .ensures .0, c .before .before .before .before .before .before .before .before .before .before .before .before .before .before .before .before .before .pre .0)
 
 enum-known-w-2 : tie.Need-enum-known-w-2
 enum-known-w-2 c = search needs
-
-enum-known-w-3 : tie.Need-enum-known-w-3
-enum-known-w-3 c = search needs
 
 same-length-2 : tie.Need-same-length-2
 same-length-2 c = search needs
@@ -54,12 +51,11 @@ returns-2 c =
     let w = c .before .before .before .before .before .before .before .before .before .before .before .walk in
     let v = c .before .before .before .before .before .before .w .given in
     let e = tables (x .sheet .now) (x .types .now) (x .ops .now) in
-    let d = decodeBody (x .types .now) (x .last) (x .s .now) in
     let n = c .before .before .count-far-anew in
     let m = n .last .1 .1 .1 .1 .1 .0 in
     let s = w .kept .1 .1 .1 .1 .1 .0 in (
-      with-far e d (x .flags .now) _ _ _ _ (w .ensures .0 .0) _ _ (v .1) (w .ensures .1) (a .pre .1) m _ s (n .ensures .1),
-      still-marked e d (x .flags .now) _ _ _ _ (w .ensures .0 .0) _ _ (v .1) (w .ensures .1) (a .pre .1) m _ s (n .ensures .1),
+      with-far e (x .last) (x .s .now) (x .flags .now) _ _ _ _ (w .ensures .0 .0) _ _ (v .1) (w .ensures .1) (a .pre .1) m _ s (n .ensures .1),
+      still-flagged e (x .last) (x .s .now) (x .flags .now) _ _ _ _ (w .ensures .0 .0) _ _ (v .1) (w .ensures .1) (a .pre .1) m _ s (n .ensures .1),
     )
 
 same-length-3 : tie.Need-same-length-3
@@ -67,24 +63,13 @@ same-length-3 c = search needs
 
 returns-3 : tie.Need-returns-3
 returns-3 c =
-    let x = c .before .before .before .before .before .before .before .before .before .before .before .before .args in
+    let a = c .before .before .before .before .before .before .before .before .before .before .before .before in
+    let x = a .args in
     let w = c .before .before .before .before .before .before .walk in
     let v = c .before .w2 .given .1 in
     let e = tables (x .sheet .now) (x .types .now) (x .ops .now) in
     let d = decodeBody (x .types .now) (x .last) (x .s .now) in
-    (refused-beyond e d _ _ (w .ensures .0 .0) _ v, λ rs p. beyond-not e d _ _ (w .ensures .0 .0) _ v rs p)
-
-same-length-4 : tie.Need-same-length-4
-same-length-4 c = search needs
-
-returns-4 : tie.Need-returns-4
-returns-4 c =
-    let x = c .before .before .before .before .before .before .before .before .before .before .before .before .args in
-    let w = c .before .before .before .before .before .before .walk in
-    let v = c .before .w3 .given .1 in
-    let e = tables (x .sheet .now) (x .types .now) (x .ops .now) in
-    let d = decodeBody (x .types .now) (x .last) (x .s .now) in
-    (refused-cut e d _ _ (w .ensures .0 .0) _ v, λ rs p. cut-not e d _ _ (w .ensures .0 .0) _ v rs p)
+    (was-refused e d _ _ (w .ensures .0 .0) _ v, all-flagged e (readable (x .types .now) (x .last) (x .s .now)) (x .flags .now) _ _ _ (w .ensures .1) (a .pre .1))
 
 pub collect-label-offsets-spec : {M : Type 1} → statement M
 collect-label-offsets-spec =
@@ -96,12 +81,9 @@ collect-label-offsets-spec =
     same-length
     returns
     count-far-anew-requires
-    add-t22
+    add-t21
     enum-known-w-2
-    enum-known-w-3
     same-length-2
     returns-2
     same-length-3
-    returns-3
-    same-length-4
-    returns-4)
+    returns-3)

@@ -1,4 +1,4 @@
-use Rattle.list_labels.proofs.CollectLaws.{met-count, few-counted, far-counted, beyond-not, cut-not}
+use Rattle.list_labels.proofs.CollectLaws.{met-count, few-counted, far-counted, not-decoded}
 use Rattle.list_labels.specs.Collecting.{tables, unnoted}
 use Rattle.spec_body.specs.Decode.{decodeBody}
 use lib.ListN.{length-take}
@@ -37,9 +37,6 @@ count-different-requires c κs =
 enum-told : tie.Need-enum-told
 enum-told c = search needs
 
-enum-told-2 : tie.Need-enum-told-2
-enum-told-2 c = search needs
-
 same-length : tie.Need-same-length
 same-length c = search needs
 
@@ -61,7 +58,7 @@ returns c =
     let f : v .0 .1 .0 ≤ 65536 = omega (arith, k, a .pre) in
     let n = c .before .before .before .before .count-different .ensures in (
       few-counted _ _ _ _ n f,
-      far-counted e d (x .flags .now) (x .stored .now) _ _ _ (w .ensures .0 .0) _ _ (v .1) (w .ensures .1) _ (omega (arith, f, a .pre)) (w .kept .1 .1 .1 .1 .1 .1 .0) n,
+      far-counted e (x .last) (x .s .now) (x .flags .now) (x .stored .now) _ _ _ (w .ensures .0 .0) _ _ (v .1) (w .ensures .1) _ (omega (arith, f, a .pre)) (w .kept .1 .1 .1 .1 .1 .1 .0) n,
     )
 
 same-length-4 : tie.Need-same-length-4
@@ -76,21 +73,7 @@ returns-2 c =
     let w = c .before .before .before .before .before .before .walk in
     let e = tables (x .sheet .now) (x .types .now) (x .ops .now) in
     let d = decodeBody (x .types .now) (x .last) (x .s .now) in
-    (search needs, λ rs p. beyond-not e d (unnoted (x .flags .now) (x .stored .now)) _ (w .ensures .0 .0) _ (c .enum-told .given .1) rs p)
-
-same-length-6 : tie.Need-same-length-6
-same-length-6 c = search needs
-
-same-length-7 : tie.Need-same-length-7
-same-length-7 c = search needs
-
-returns-3 : tie.Need-returns-3
-returns-3 c =
-    let x = c .before .before .before .before .before .before .before .before .before .before .before .before .before .before .args in
-    let w = c .before .before .before .before .before .before .walk in
-    let e = tables (x .sheet .now) (x .types .now) (x .ops .now) in
-    let d = decodeBody (x .types .now) (x .last) (x .s .now) in
-    (search needs, λ rs p. cut-not e d (unnoted (x .flags .now) (x .stored .now)) _ (w .ensures .0 .0) _ (c .enum-told2 .given .1) rs p)
+    (search needs, λ rs p. not-decoded e d (unnoted (x .flags .now) (x .stored .now)) _ (w .ensures .0 .0) _ (c .enum-told .given .1) rs p)
 
 pub count-far-spec : {M : Type 1} → statement M
 count-far-spec =
@@ -103,14 +86,10 @@ count-far-spec =
     part-count-different-end
     count-different-requires
     enum-told
-    enum-told-2
     same-length
     same-length-2
     same-length-3
     returns
     same-length-4
     same-length-5
-    returns-2
-    same-length-6
-    same-length-7
-    returns-3)
+    returns-2)

@@ -3,7 +3,7 @@ use Prim.Native.Nat.{_-_}
 use lib.ListN.{length}
 use Rattle.list_labels.specs.Notes.{notesOf}
 use Rattle.list_labels.specs.Collecting.{tables}
-use Rattle.list_labels.proofs.WalkLoop.{Going, start, ended, stopped, broken, turn, ended-beyond, ended-cut, ended-met}
+use Rattle.list_labels.proofs.WalkLoop.{Going, start, ended, stopped, broken, turn}
 use borrow.Author.Needs.{needs}
 use Rattle.list_labels.proofs.collect.walk.Statement.{statement}
 use Rattle.list_labels.proofs.collect.walk.Tie as tie
@@ -32,7 +32,7 @@ same-length-2 c = c .before .before .before .loop .inv .same-stored
 returns : tie.Need-returns Inv-loop μ-loop
 returns c =
     let l = c .before .before .before .loop in
-    let r = ended-beyond _ _ _ (c .before .before .before .before .before .before .before .before .args .s .now) _ _ _ (stopped _ _ _ _ _ _ (l .inv) (c .before .before .loop-test .taken) (c .if1 .taken)) in
+    let r = stopped _ _ _ _ _ _ (l .inv) (c .before .before .loop-test .taken) (c .if1 .taken) in
     (r .answered, r .left-noted)
 
 mul-row : tie.Need-mul-row Inv-loop μ-loop
@@ -56,8 +56,7 @@ same-length-4 c = c .before .before .before .before .before .before .loop .inv .
 returns-2 : tie.Need-returns-2 Inv-loop μ-loop
 returns-2 c =
     let l = c .before .before .before .before .before .before .loop in
-    let q = broken _ _ _ _ _ _ (l .inv) (c .before .before .before .before .before .loop-test .taken) (c .before .before .before .if1 .left) _ (c .before .instruction-length .ensures .0) (c .if2 .taken) in
-    let r = ended-cut _ _ _ (c .before .before .before .before .before .before .before .before .before .before .before .args .s .now) _ _ _ q in
+    let r = broken _ _ _ _ _ _ (l .inv) (c .before .before .before .before .before .loop-test .taken) (c .before .before .before .if1 .left) _ (c .before .instruction-length .ensures .0) (c .if2 .taken) in
     (r .answered, r .left-noted)
 
 mul-info : tie.Need-mul-info Inv-loop μ-loop
@@ -90,7 +89,7 @@ same-length-6 c = c .before .loop .inv .same-stored
 returns-3 : tie.Need-returns-3 Inv-loop μ-loop
 returns-3 c =
     let l = c .before .loop in
-    let r = ended-met _ _ _ (c .before .before .before .before .before .before .args .s .now) _ (ended _ _ _ _ _ _ (l .inv) (c .loop-test .left)) (omega (arith, l .inv .few, l .inv .inside)) in
+    let r = ended _ _ _ _ _ _ (l .inv) (c .loop-test .left) in
     (r .answered, r .left-noted)
 
 pub walk-spec : {M : Type 1} → statement M

@@ -1,7 +1,7 @@
 use mathlib.Core.Path.{refl}
 use Rattle.listing.proofs.FunctionLaws.{part-size}
-use Rattle.list_module.specs.Modules.{partRefusal, listLocated}
-use Rattle.list_module.specs.Modules.PartWritten.{broken}
+use Rattle.list_module.specs.Modules.{listLocated}
+use Rattle.listing.specs.Bodies.Written.{stopped}
 use borrow.Author.Needs.{needs}
 use Rattle.list_module.proofs.function_part.list_located.Statement.{statement}
 use Rattle.list_module.proofs.function_part.list_located.Tie as tie
@@ -18,11 +18,11 @@ list-titled-requires c κs =
     let f = c .before .before .before .place .given in
     (part-size (start .args .area .now) (f .0 .0 .start) (f .0 .0 .size) (c .before .part-of .ensures) (start .pre .0 _ (f .1) .1), start .pre .1)
 
-enum-told : tie.Need-enum-told
-enum-told c = search needs
+enum-known-place-2 : tie.Need-enum-known-place-2
+enum-known-place-2 c = search needs
 
-enum-told-2 : tie.Need-enum-told-2
-enum-told-2 c = search needs
+refuse-part-requires : tie.Need-refuse-part-requires
+refuse-part-requires c κs = search needs
 
 same-length : tie.Need-same-length
 same-length c = search needs
@@ -31,13 +31,14 @@ returns : tie.Need-returns
 unfolding listLocated
 returns c = rw (c .before .before .before .before .before .before .place .given .1) (rw (c .before .before .before .before .part-of .ensures) at (c .before .before .list-titled .ensures))
 
-returns-2 : tie.Need-returns-2
-unfolding listLocated partRefusal
-returns-2 c = rw (c .enum-told .given .1) (broken 18 0 refl refl refl)
+same-length-2 : tie.Need-same-length-2
+same-length-2 c = search needs
 
-returns-3 : tie.Need-returns-3
-unfolding listLocated partRefusal
-returns-3 c = rw (c .enum-told2 .given .1) (broken 20 (c .before .before .before .before .before .before .before .args .id) refl refl refl)
+returns-2 : tie.Need-returns-2
+unfolding listLocated
+returns-2 c =
+    let f = c .before .before .refuse-part .ensures in
+    rw (c .before .before .before .before .before .place2 .given .1) (stopped _ refl (f .0) (f .1))
 
 pub list-located-spec : {M : Type 1} → statement M
 list-located-spec =
@@ -46,9 +47,9 @@ list-located-spec =
     enum-known-place
     part-of-requires
     list-titled-requires
-    enum-told
-    enum-told-2
+    enum-known-place-2
+    refuse-part-requires
     same-length
     returns
-    returns-2
-    returns-3)
+    same-length-2
+    returns-2)

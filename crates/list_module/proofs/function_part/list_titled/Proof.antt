@@ -11,13 +11,18 @@ put-title-requires c κs = search needs
 sub-if1 : tie.Need-sub-if1
 sub-if1 c = search needs
 
+refuse-part-requires : tie.Need-refuse-part-requires
+refuse-part-requires c κs = search needs
+
 same-length : tie.Need-same-length
 same-length c = search needs
 
 returns : tie.Need-returns
 returns c =
-    let a = c .before .before .before .before .before .before .before .before .before .before .args in
-    titled-long (optionsOf (a .options)) (contextFrom (a .sheet .now) (a .types .now) (a .ops .now) (a .bytes .now) (a .ends .now)) (a .last) (a .id) (a .name) (a .s .now) (c .before .before .before .before .before .before .before .before .before .before .pre .1) (c .before .before .before .put-title .ensures) (c .if1 .taken)
+    let x = c .before .before .before .before .before .before .before .before .before .before .before .before .before .before in
+    let a = x .args in
+    let f = c .before .before .refuse-part .ensures in
+    titled-long (optionsOf (a .options)) (contextFrom (a .sheet .now) (a .types .now) (a .ops .now) (a .bytes .now) (a .ends .now)) (a .last) (a .id) (a .name) (a .s .now) (x .pre .1) (c .before .before .before .before .before .before .before .put-title .ensures) (c .before .before .before .before .if1 .taken) (f .0) (f .1)
 
 put-byte-requires : tie.Need-put-byte-requires
 put-byte-requires c κs = search needs
@@ -45,6 +50,7 @@ list-titled-spec =
     (tie.spec
     put-title-requires
     sub-if1
+    refuse-part-requires
     same-length
     returns
     put-byte-requires

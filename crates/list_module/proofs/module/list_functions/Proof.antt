@@ -5,7 +5,7 @@ use Rattle.listing.specs.Functions.{areaOf}
 use Rattle.listing.specs.Parts.{optionsOf}
 use Rattle.spec_inputs.specs.Context.{contextFrom}
 use Rattle.list_module.proofs.ModuleLaws.{in-place}
-use Rattle.list_module.proofs.ModuleLoop.{Listing, listing-start, listing-turn, listing-stopped, listing-finished, not-listed}
+use Rattle.list_module.proofs.ModuleLoop.{Listing, listing-start, listing-turn, listing-stopped, listing-finished}
 use borrow.Author.Needs.{needs}
 use Rattle.list_module.proofs.module.list_functions.Statement.{statement}
 use Rattle.list_module.proofs.module.list_functions.Tie as tie
@@ -31,13 +31,17 @@ list-located-requires c κs = (c .before .locate .ensures .1, omega (arith, c .b
 enum-known-p : tie.Need-enum-known-p Inv-loop μ-loop
 enum-known-p c = search needs
 
+enum-told : tie.Need-enum-told Inv-loop μ-loop
+enum-told c = search needs
+
 same-length : tie.Need-same-length Inv-loop μ-loop
 same-length c = search needs
 
 returns : tie.Need-returns Inv-loop μ-loop
 returns c =
-    let a = c .before .before .before .before .before .before .before .before .before .before .before .before .before .before .args in
-    listing-stopped (optionsOf (a .options)) (contextFrom (a .sheet .now) (a .types .now) (a .ops .now) (a .bytes .now) (a .ends .now)) (a .last) (areaOf (a .functions .now) (a .area .now) (a .base)) (c .before .before .before .before .before .before .before .loop .inv) (c .before .before .before .before .before .before .loop-test .taken) (in-place (optionsOf (a .options)) (contextFrom (a .sheet .now) (a .types .now) (a .ops .now) (a .bytes .now) (a .ends .now)) (a .last) (a .functions .now) (a .area .now) (a .base) _ (c .before .before .before .before .before .locate .ensures .0) (c .before .before .before .list-located .ensures)) (λ k n q. not-listed (rw q at (c .match .keys2)))
+    let a = c .before .before .before .before .before .before .before .before .before .before .before .before .before .before .before .args in
+    let w = in-place (optionsOf (a .options)) (contextFrom (a .sheet .now) (a .types .now) (a .ops .now) (a .bytes .now) (a .ends .now)) (a .last) (a .functions .now) (a .area .now) (a .base) _ (c .before .before .before .before .before .before .locate .ensures .0) (c .before .before .before .before .list-located .ensures) in
+    listing-stopped (optionsOf (a .options)) (contextFrom (a .sheet .now) (a .types .now) (a .ops .now) (a .bytes .now) (a .ends .now)) (a .last) (areaOf (a .functions .now) (a .area .now) (a .base)) _ (c .before .before .before .before .before .before .before .before .loop .inv) (c .before .before .before .before .before .before .before .loop-test .taken) w (c .enum-told .given .1)
 
 capped-requires : tie.Need-capped-requires Inv-loop μ-loop
 capped-requires c κs = search needs
@@ -74,6 +78,7 @@ list-functions-spec =
     locate-requires
     list-located-requires
     enum-known-p
+    enum-told
     same-length
     returns
     capped-requires

@@ -1,8 +1,9 @@
-use Rattle.operation.proofs.EndedLaws.{read-on, refused-on, not-ready}
-use Rattle.list_module.proofs.ModuleEnd.{moduleUnder, module-is}
+use mathlib.Core.Path.{refl, sym}
+use Rattle.operation.proofs.EndedLaws.{read-on, refused-on}
+use Rattle.listing.specs.Answers.{listReport}
 use Rattle.listing.specs.Functions.{areaOf}
 use Rattle.listing.specs.Parts.{optionsOf}
-use mathlib.Core.Path.{sym}
+use Rattle.list_module.proofs.ModuleEnd.{moduleUnder, module-is}
 use borrow.Author.Needs.{needs}
 use Rattle.list_module.proofs.module.list_module.Statement.{statement}
 use Rattle.list_module.proofs.module.list_module.Tie as tie
@@ -16,11 +17,14 @@ read-inputs-requires c κs = search needs
 enum-known-i : tie.Need-enum-known-i
 enum-known-i c = search needs
 
+module-under-requires : tie.Need-module-under-requires
+module-under-requires c κs = search needs
+
+enum-known-i-2 : tie.Need-enum-known-i-2
+enum-known-i-2 c = search needs
+
 clear-requires : tie.Need-clear-requires
 clear-requires c κs = search needs
-
-refused-inputs-requires : tie.Need-refused-inputs-requires
-refused-inputs-requires c κs = search needs
 
 same-length : tie.Need-same-length
 same-length c = search needs
@@ -30,13 +34,11 @@ same-length-2 c = search needs
 
 returns : tie.Need-returns
 returns c =
-    let a = c .before .before .before .before .before .before .before .before .before .before .before .before .before .before .before .before .before .before .before .before .args in
+    let a = c .before .before .before .before .before .before .before .before .before .before .before .before .before .before .before .before .before .before .before .before .before .before .before .args in
     let o = optionsOf (a .options) in
     let ar = areaOf (a .functions .now) (a .area .now) (a .base) in
-    (rw (module-is o (a .sheet .now) (a .bytes .now) (a .ends .now) ar _) (refused-on (moduleUnder o ar _) (c .before .before .before .before .before .before .read-inputs .ensures) (λ last q. not-ready (rw q at (c .before .before .before .before .before .match .keys2))) (c .refused-inputs .ensures) (c .before .before .before .clear .ensures)), search needs)
-
-module-under-requires : tie.Need-module-under-requires
-module-under-requires c κs = search needs
+    let given = rw (c .before .before .before .before .before .before .before .i .given .1) at (c .before .before .before .before .before .before .before .before .before .read-inputs .ensures) in
+    (rw (module-is o (a .sheet .now) (a .bytes .now) (a .ends .now) ar, sym (c .before .before .before .before .before .before .before .before .before .before .before .before .before .before .clear-entries .kept .0)) (read-on (moduleUnder o ar) given (c .before .before .module-under .ensures)), search needs)
 
 same-length-3 : tie.Need-same-length-3
 same-length-3 c = search needs
@@ -45,11 +47,13 @@ same-length-4 : tie.Need-same-length-4
 same-length-4 c = search needs
 
 returns-2 : tie.Need-returns-2
+unfolding listReport
 returns-2 c =
-    let a = c .before .before .before .before .before .before .before .before .before .before .before .before .before .before .before .before .before .before .before .before .before .before .before .args in
+    let a = c .before .before .before .before .before .before .before .before .before .before .before .before .before .before .before .before .before .before .before .before .before .args in
     let o = optionsOf (a .options) in
     let ar = areaOf (a .functions .now) (a .area .now) (a .base) in
-    (rw (module-is o (a .sheet .now) (a .bytes .now) (a .ends .now) ar _, sym (c .before .before .before .before .before .before .before .before .before .before .before .before .before .before .clear-entries .kept .0)) (read-on (moduleUnder o ar _) (rw (c .before .before .before .before .before .before .before .i .given .1) at (c .before .before .before .before .before .before .before .before .before .read-inputs .ensures)) (c .before .before .module-under .ensures)), search needs)
+    let given = rw (c .before .before .before .before .before .i2 .given .1) at (c .before .before .before .before .before .before .before .read-inputs .ensures) in
+    (rw (module-is o (a .sheet .now) (a .bytes .now) (a .ends .now) ar) (refused-on (moduleUnder o ar) given refl (c .before .before .clear .ensures)), search needs)
 
 pub list-module-spec : {M : Type 1} → statement M
 list-module-spec =
@@ -58,12 +62,12 @@ list-module-spec =
     clear-entries-requires
     read-inputs-requires
     enum-known-i
+    module-under-requires
+    enum-known-i-2
     clear-requires
-    refused-inputs-requires
     same-length
     same-length-2
     returns
-    module-under-requires
     same-length-3
     same-length-4
     returns-2)

@@ -1,3 +1,4 @@
+use Rattle.listing.proofs.EndLaws.{written-end}
 use borrow.Author.Needs.{needs}
 use Rattle.listing.proofs.list.list_under.Statement.{statement}
 use Rattle.listing.proofs.list.list_under.Tie as tie
@@ -15,7 +16,9 @@ same-length : tie.Need-same-length
 same-length c = search needs
 
 returns : tie.Need-returns
-returns c = c .before .before .finish .ensures _ _ (c .before .before .before .before .before .before .list-body .ensures)
+returns c =
+    let f = c .before .before .finish .ensures in
+    written-end _ _ _ _ _ _ (f .0) (f .1) (c .before .before .before .before .before .before .list-body .ensures)
 
 pub list-under-spec : {M : Type 1} → statement M
 list-under-spec =

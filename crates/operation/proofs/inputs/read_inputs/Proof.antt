@@ -1,4 +1,3 @@
-use Rattle.operation.proofs.EndedLaws.{not-ready}
 use Rattle.operation.proofs.TableLaws.{were-ready, were-refused}
 use Rattle.operation.proofs.UnderLaws.{table-refused, table-ready}
 use mathlib.Core.Path.{sym, _∙_}
@@ -12,8 +11,13 @@ table-inputs-requires c κs = search needs
 enum-told : tie.Need-enum-told
 enum-told c = search needs
 
+enum-told-2 : tie.Need-enum-told-2
+enum-told-2 c = search needs
+
 returns : tie.Need-returns
-returns c = table-refused (were-refused _ _ _ _ (sym (c .before .table-inputs .ensures)) (λ k q. not-ready (rw q at (c .match .keys2))))
+returns c =
+    let e = c .enum-told2 .given .1 in
+    table-refused _ (were-refused _ _ _ _ (sym (c .before .before .table-inputs .ensures) ∙ e)) e
 
 read-tables-requires : tie.Need-read-tables-requires
 read-tables-requires c κs = search needs
@@ -23,4 +27,4 @@ returns-2 c = table-ready (were-ready _ _ _ _ (sym (c .before .before .before .b
 
 pub read-inputs-spec : {M : Type 1} → statement M
 read-inputs-spec =
-    tie.close (tie.spec table-inputs-requires enum-told returns read-tables-requires returns-2)
+    tie.close (tie.spec table-inputs-requires enum-told enum-told-2 returns read-tables-requires returns-2)

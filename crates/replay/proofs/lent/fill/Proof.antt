@@ -1,12 +1,12 @@
-use mathlib.Core.Path.{_≡_}
 use lib.ListN.{length}
-use Prim.Native.Nat.{_-_, _≤_}
+use Prim.Native.Nat.{_-_}
+use Rattle.lists.proofs.Clears.{Cleared, clear-turn, clear-end}
 use borrow.Author.Needs.{needs}
 use Rattle.replay.proofs.lent.fill.Statement.{statement}
 use Rattle.replay.proofs.lent.fill.Tie as tie
 
 abbrev Inv-loop : tie.InvT-loop
-Inv-loop s₀ b i₀ s i = (i ≤ length s₀) × (length s ≡ length s₀)
+Inv-loop s₀ b i₀ s i = Cleared b s₀ s i
 
 abbrev μ-loop : tie.MeasureT-loop
 μ-loop s₀ b i₀ s i = length s₀ - i
@@ -24,13 +24,19 @@ loop-less : tie.Need-loop-less Inv-loop μ-loop
 loop-less c = search needs
 
 loop-again : tie.Need-loop-again Inv-loop μ-loop
-loop-again c = search needs
+loop-again c =
+    let l = c .before .loop in
+    let a = c .before .before .args in
+    clear-turn (a .b) (a .s .now) (l .s) (l .i) (l .inv) (search needs)
 
 same-length : tie.Need-same-length Inv-loop μ-loop
 same-length c = search needs
 
 returns : tie.Need-returns Inv-loop μ-loop
-returns c = search needs
+returns c =
+    let l = c .before .loop in
+    let a = c .before .before .args in
+    clear-end (a .b) (a .s .now) (l .s) (l .i) (l .inv) (search needs)
 
 pub fill-spec : {M : Type 1} → statement M
 fill-spec =

@@ -1,0 +1,4 @@
+pub mod Report
+pub mod Refusals
+pub mod Outcome
+pub mod Numbers

@@ -1,3 +1,0 @@
-pub mod HexAnswers
-pub mod TableAnswers
-pub mod ReaderAnswers

@@ -1,1 +1,0 @@
-// What every operation answers. There is no code here: see specs/.

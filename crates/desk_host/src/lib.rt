@@ -17,7 +17,7 @@ use encode::answer::encode_numbers;
 use hasm_labels::label_entry::Slot;
 use listing::options::Options;
 
-// Decodes a body under the sheet `text` into records of 20 words.
+// Decodes a body under a sheet into records of 20 words.
 #[no_mangle]
 pub extern "C" fn desk_decode(sheet: &[u8], body: &[u8], out: &mut [u64]) -> Numbers
     ensures { λ r. ⌜ Ended (operation.decode (now (sheet .entry)) (now (body .entry))) (now (out .entry)) [] (now (out .exit)) (reportIn r) ⌝ }
@@ -40,7 +40,7 @@ pub extern "C" fn desk_decode_function(
     decode_numbers(decode::instructions::decode_function(sheet, functions, area, base, id, out))
 }
 
-// Encodes records of 20 words under the sheet `text` into a body.
+// Encodes records of 20 words under a sheet into a body.
 #[no_mangle]
 pub extern "C" fn desk_encode(sheet: &[u8], words: &[u64], out: &mut [u8]) -> Numbers
     ensures { λ r. ⌜ Ended (operation.encode (now (sheet .entry)) (now (words .entry))) (now (out .entry)) [] (now (out .exit)) (reportIn r) ⌝ }
@@ -48,7 +48,7 @@ pub extern "C" fn desk_encode(sheet: &[u8], words: &[u64], out: &mut [u8]) -> Nu
     encode_numbers(encode::encode::encode(sheet, words, out))
 }
 
-// Lists a body under the sheet `text` and a string table, with offsets, labels and texts shown or not.
+// Lists a body under a sheet and a string table, with offsets, labels and texts shown or not.
 #[no_mangle]
 pub extern "C" fn desk_list(
     sheet: &[u8],
@@ -154,7 +154,7 @@ pub extern "C" fn desk_list_module(
     ))
 }
 
-// Assembles a text under the sheet `sheet` and a string table. A label entry is three words.
+// Assembles a text under a sheet and a string table. A label entry is three words.
 #[no_mangle]
 pub extern "C" fn desk_assemble(
     sheet: &[u8],

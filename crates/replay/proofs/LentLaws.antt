@@ -14,7 +14,7 @@ use Rattle.lists.specs.Scan.{all, same, opens}
 use Rattle.lists.proofs.Parts.{tail-part}
 use Rattle.lists.proofs.Scans.{opens-short}
 use Rattle.lists.proofs.Tests.{by-eqb}
-use Rattle.replay.specs.Lent.{allAre, leftAs, allClear}
+use Rattle.replay.specs.Lent.{allAre, leftAs}
 
 eqb-sym : (a b : ℕ) → eqb a b ≡ eqb b a
 eqb-sym a b = by-eqb a b (λ e. rw e) (λ n. ne-eqb a b n ∙ sym (ne-eqb b a (λ e. n (sym e))))

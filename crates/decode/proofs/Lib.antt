@@ -1,4 +1,3 @@
-pub mod ValueLaws
 pub mod PairLaws
 pub mod OperandLoop
 pub mod TableLaws

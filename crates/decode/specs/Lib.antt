@@ -1,4 +1,3 @@
-pub mod Value
 pub mod Tables
 pub mod Answers
 pub mod Bodies

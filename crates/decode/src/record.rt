@@ -6,11 +6,12 @@ ghost use lib.Seq.{paste};
 ghost use Rattle.spec_sheet.specs.Types.{widthOf};
 ghost use Rattle.spec_sheet.specs.Row.{lengthOf};
 ghost use Rattle.spec_body.specs.Record.{pairs, recordOf};
-ghost use Rattle.decode.specs.Value.{operandAt};
+ghost use Rattle.operand.specs.Value.{operandAt, kindIn, bitsIn};
 ghost use Rattle.decode.specs.Tables.{CodeRows, headRow};
-use crate::operand_value::Operand;
 use crate::tables::kind_at;
 use crate::tables::width_at;
+use operand::value::bits_of;
+use operand::value::kind_of;
 use slices::widen::wide_byte;
 
 // Writes two words.
@@ -22,18 +23,29 @@ fn put_pair(out: &mut [u64], k: usize, first: u64, second: u64)
     out[k + 1] = second;
 }
 
-// The operand of a type at p, in the instruction at `at`. Whether eight bytes end with the operand's is asked of the
+// Writes kind and bits of the operand of a type at p, in the instruction at `at`: those of its value. Where eight bytes end
+// with the operand's, both come from tables, as a branch by kind would cost more than the rest. That is asked of the
 // instruction's place, which is the same for all its operands, so the compiler takes the test out of their loop.
-fn operand_at(code: u8, codes: &[[u8; 2]; 256], s: &[u8], at: usize, p: usize) -> Operand
-    requires { ⌜ CodeRows (now codes) × (at ≤ p) × (p + widthOf code ≤ length (now s)) ⌝ }
-    ensures { λ r. ⌜ r ≡ operandAt code (now (s .entry)) p ⌝ }
+fn put_operand(
+    out: &mut [u64],
+    k: usize,
+    code: u8,
+    codes: &[[u8; 2]; 256],
+    s: &[u8],
+    at: usize,
+    p: usize,
+)
+    requires { ⌜ (k + 2 ≤ length (now out)) × CodeRows (now codes) × (at ≤ p) × (p + widthOf code ≤ length (now s)) ⌝ }
+    ensures { λ _. ⌜ now (out .exit) ≡ set (set (now (out .entry)) k (kindIn (operandAt code (now (s .entry)) p))) (k + 1) (bitsIn (operandAt code (now (s .entry)) p)) ⌝ }
 {
     if 8 <= at {
         let bits = numbers::io::read_of_eight(s, p, width_at(codes, code));
-        let value = crate::operand_value::value_of(kind_at(codes, code), bits);
-        return Operand { value, bits };
+        put_pair(out, k, wide_byte(kind_at(codes, code)), bits);
+        return;
     }
-    crate::operand_value::read_operand(code, s, p)
+    let o = operand::read::read_operand(code, s, p);
+    let value = o.value;
+    put_pair(out, k, wide_byte(kind_of(value)), bits_of(value, o.bits));
 }
 
 // Writes the eight pairs of kind and bits of the instruction at `at` from word k on.
@@ -52,10 +64,7 @@ fn put_operands(
     let mut i: usize = 0;
     while i < 8 {
         let c = row[i];
-        let o = operand_at(c, codes, s, at, p);
-        let value = o.value;
-        let kind = crate::operand_value::kind_of(value);
-        put_pair(out, k + 2 * i, wide_byte(kind), o.bits);
+        put_operand(out, k + 2 * i, c, codes, s, at, p);
         p += width_at(codes, c);
         i += 1;
     }

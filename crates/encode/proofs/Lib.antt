@@ -1,4 +1,3 @@
-pub mod OperandLaws
 pub mod ShapeLaws
 pub mod CanonicalLaws
 pub mod AheadLaws

@@ -2,14 +2,16 @@
 use mathlib.Core.Path.{_≡_, ap, _∙_}
 use mathlib.Core.Bool.{Bool, true, false}
 use mathlib.Core.List.{List}
-use Prim.Native.Nat.{ℕ, suc, _+_, _-_, _*_, _<_}
+use Prim.Native.Nat.{ℕ, zero, suc, _+_, _-_, _*_, _<_}
 use native.Mathlib.Omega.{arith}
-use lib.Dec.{eqb}
+use lib.Dec.{eqb, leb}
 use lib.ListN.{drop, getD}
 use lib.Seq.{drop-drop, getD-drop}
 use Rattle.lists.specs.Choice.{pick, both}
+use borrow.Author.Tests.{eqb-true, ne-eqb}
 use Rattle.lists.proofs.Parts.{part-at}
-use Rattle.spec_body.specs.Encode.{goodPair, goodPairs}
+use Rattle.lists.proofs.Tests.{both-left, both-right}
+use Rattle.spec_body.specs.Encode.{goodPair, goodPairs, goodShape}
 use Rattle.encode.specs.Ahead.{recordAt, pairsAt}
 
 -- the words of pair i
@@ -41,3 +43,24 @@ module _ (words : List ℕ) (at i p left : ℕ) (e : p ≡ at + 4 + 2 * i) (h : 
 
   pub pair-bad : slot left (getD words p 0) (getD words (p + 1) 0) ≡ false → goodPairs (8 - i) left (drop (2 * i) (pairsAt words at)) ≡ false
   pair-bad g = one-pair ∙ rw g
+
+-- a pair that is used is good, and so is an unused one, which is zero
+slot-pair : (left kind bits : ℕ) → slot left kind bits ≡ true → goodPair kind bits ≡ true
+unfolding goodPair
+slot-pair zero kind bits e = rw (eqb-true kind 0 (both-left _ _ e), eqb-true bits 0 (both-right (eqb kind 0) _ e))
+slot-pair (suc n) kind bits e = rw (ne-eqb (suc n) 0 (λ q. omega arith)) at e
+
+each-pair : (n count : ℕ) (ws : List ℕ) → goodPairs n count ws ≡ true → (j : ℕ) → j < n → goodPair (getD (drop (2 * j) ws) 0 0) (getD (drop (2 * j) ws) 1 0) ≡ true
+unfolding goodPairs
+each-pair zero count ws e j h = absurd (omega arith)
+each-pair (suc n) count ws e zero h = slot-pair count _ _ (both-left _ _ e)
+each-pair (suc n) count ws e (suc j) h =
+    let q : 2 + 2 * j ≡ 2 * suc j = omega arith in
+    rw (← q, ← drop-drop (2 * j) 2 ws) (each-pair n (count - 1) (drop 2 ws) (both-right (slot count (getD ws 0 0) (getD ws 1 0)) _ e) j (omega arith))
+
+pub shape-pair : (words : List ℕ) (at i p : ℕ) → p ≡ at + 4 + 2 * i → i < 8 → goodShape (recordAt words at) ≡ true → goodPair (getD words p 0) (getD words (p + 1) 0) ≡ true
+unfolding goodShape
+shape-pair words at i p e h g =
+    let z : p + 0 ≡ p = omega arith in
+    let k : getD (drop (2 * i) (pairsAt words at)) 0 0 ≡ getD words p 0 = pair-word words at i p e h 0 (omega arith) ∙ ap (λ (n : ℕ). getD words n 0) z in
+    rw (← k, ← pair-word words at i p e h 1 (omega arith)) (each-pair 8 _ (pairsAt words at) (both-right (leb (getD (recordAt words at) 3 0) 8) _ g) i h)

@@ -1,4 +1,3 @@
-pub mod Value
 pub mod Canonical
 pub mod Ahead
 pub mod OperandsWritten

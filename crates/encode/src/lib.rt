@@ -5,4 +5,3 @@ pub mod encode; // all records, and the operation
 pub mod record; // one record into bytes
 pub mod record_operands; // a record's operands as bytes
 pub mod record_shape; // whether a record's shape is good, 15
-pub mod write_operand; // a value into an operand of a type, with its conversions

@@ -1,12 +1,14 @@
 // A record's operands as bytes.
+ghost use mathlib.Core.Path.{_≡_};
+ghost use mathlib.Core.Bool.{true};
 ghost use Prim.Native.Nat.{_+_, _*_, _≤_};
 ghost use lib.ListN.{length};
-ghost use Rattle.spec_body.specs.Encode.{encodeOperands};
-ghost use Rattle.encode.specs.Ahead.{pairsAt};
+ghost use Rattle.spec_body.specs.Encode.{goodShape, encodeOperands};
+ghost use Rattle.encode.specs.Ahead.{recordAt, pairsAt};
 ghost use Rattle.encode.specs.OperandsWritten.{Operanded};
-use crate::write_operand::Fitted;
 use answers::refusal::OperandFault;
 use answers::refusal::Refusal;
+use operand::write::Fitted;
 
 // Operands or records that were written: the next position; or the first refusal.
 pub(crate) enum Wrote {
@@ -14,7 +16,7 @@ pub(crate) enum Wrote {
     Refused(Refusal),
 }
 
-// Writes the operands of record i from position `from` on.
+// Writes the operands of record i, whose shape is good, from position `from` on.
 pub(crate) fn encode_operands(
     row: [u8; 8],
     words: &[u64],
@@ -22,7 +24,7 @@ pub(crate) fn encode_operands(
     out: &mut [u8],
     from: usize,
 ) -> Wrote
-    requires { ⌜ 20 * i + 20 ≤ length (now words) ⌝ }
+    requires { ⌜ (20 * i + 20 ≤ length (now words)) × (goodShape (recordAt (now words) (20 * i)) ≡ true) ⌝ }
     ensures { λ r. ⌜ Operanded (encodeOperands row (pairsAt (now (words .entry)) (20 * i)) 1) i (now (out .entry)) «from» (now (out .exit)) r ⌝ }
 {
     let mut k = from;
@@ -33,8 +35,10 @@ pub(crate) fn encode_operands(
             return Wrote::To(k);
         }
         let p = 20 * i + 4 + 2 * j;
-        let v = crate::write_operand::encode_number(c, words[p], words[p + 1]);
-        let Fitted::Bits(n) = v else {
+        let bits = words[p + 1];
+        let value = operand::value::value_of(words[p] as u8, bits);
+        let fitted = operand::write::write_operand(c, value, bits);
+        let Fitted::Bits(n) = fitted else {
             return Wrote::Refused(Refusal::BadOperand(OperandFault::Misfit, i, j + 1));
         };
         k = numbers::io::put_le(out, k, sheet::operand_types::width(c), n);

@@ -6,7 +6,7 @@ ghost use lib.ListN.{length};
 ghost use Rattle.lists.specs.Choice.{pick, both};
 ghost use Rattle.spec_body.specs.Encode.{goodPair, goodPairs, goodShape};
 ghost use Rattle.encode.specs.Ahead.{recordAt, pairsAt};
-use crate::write_operand::fits_in;
+use operand::write::fits_in;
 
 const KIND_WIDTHS: [usize; 6] = [1, 2, 4, 1, 4, 8];
 

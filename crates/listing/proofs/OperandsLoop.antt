@@ -2,7 +2,7 @@
 use mathlib.Core.Path.{_≡_, ap, sym, _∙_}
 use mathlib.Core.Bool.{Bool}
 use mathlib.Core.List.{List, [], _∷_, _++_}
-use Prim.Native.Nat.{ℕ, suc, _+_, _^_, _≤_, _<_}
+use Prim.Native.Nat.{ℕ, suc, _+_, _≤_, _<_}
 use native.Mathlib.Numerals.{add-one}
 use native.Mathlib.Omega.{arith}
 use lib.Dec.{eqb}
@@ -10,22 +10,16 @@ use lib.ListN.{length, drop, getD, drop-of-length-le}
 use lib.Seq.{drop-cons}
 use borrow.Author.Tests.{eq-eqb, ne-eqb}
 use Rattle.lists.specs.Choice.{pick}
-use Rattle.lists.specs.Scan.{Bytes, part}
+use Rattle.lists.specs.Scan.{part}
 use Rattle.lists.specs.Text.{text}
 use Rattle.lists.specs.Write.{Put, top}
-use Rattle.lists.proofs.Parts.{bytes-drop}
 use Rattle.lists.proofs.Writes.{_then_}
 use Rattle.lists.proofs.LeftToWrite.{Left, left-all, left-turn, left-none}
 use Rattle.spec_numbers.specs.LittleEndian.{le}
-use Rattle.spec_numbers.proofs.ByteLaws.{le-bound}
 use Rattle.spec_sheet.specs.Types.{widthOf}
 use Rattle.spec_sheet.specs.Row.{sumBy, lengthOf, totalWidth}
 use Rattle.spec_body.specs.Record.{pairs}
 use Rattle.spec_listing.specs.Operand.{operandText, operandTexts}
-
--- the bits of an operand do not pass its width
-pub read-bits : (s : List ℕ) (p w code bits : ℕ) → Bytes s → w ≡ widthOf code → bits ≡ le (part s p w) → bits < 256 ^ widthOf code
-read-bits s p w code bits h e q = rw (q, sym e) (le-bound w (drop p s) (bytes-drop s p h))
 
 -- one operand first, or none
 module _ (texts : Bool) (bytes ends s : List ℕ) (at : ℕ) where

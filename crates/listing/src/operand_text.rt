@@ -113,11 +113,12 @@ pub(crate) fn put_operands(
         if code == 0 {
             return n;
         }
-        let width = sheet::operand_types::width(code);
-        let bits = numbers::io::read_le(s, p, width);
+        let o = operand::read::read_operand(code, s, p);
+        let value = o.value;
+        let bits = operand::value::bits_of(value, o.bits);
         n = put_separator(out, n, i);
         n = put_operand(out, n, texts, bytes, ends, at, code, bits);
-        p += width;
+        p += sheet::operand_types::width(code);
         i += 1;
     }
     n

@@ -55,17 +55,14 @@ operand-value-requires c κs = let a = c .before .before .before .before .before
 enum-known-v : tie.Need-enum-known-v Inv-loop μ-loop
 enum-known-v c = search needs
 
-width-requires : tie.Need-width-requires Inv-loop μ-loop
-width-requires c κs = search needs
-
-put-le-requires : tie.Need-put-le-requires Inv-loop μ-loop
-put-le-requires c κs = search needs
+put-value-requires : tie.Need-put-value-requires Inv-loop μ-loop
+put-value-requires c κs = search needs
 
 enum-known-v-2 : tie.Need-enum-known-v-2 Inv-loop μ-loop
 enum-known-v-2 c = search needs
 
-add-t40 : tie.Need-add-t40 Inv-loop μ-loop
-add-t40 c = search needs
+add-t39 : tie.Need-add-t39 Inv-loop μ-loop
+add-t39 c = search needs
 
 same-length-3 : tie.Need-same-length-3 Inv-loop μ-loop
 same-length-3 c = search needs
@@ -86,7 +83,7 @@ loop-less : tie.Need-loop-less Inv-loop μ-loop
 loop-less c = search needs
 
 loop-again : tie.Need-loop-again Inv-loop μ-loop
-loop-again c = (turn (c .before .before .before .before .before .before .before .before .before .before .before .before .before .before .before .before .before .before .loop .inv .0) _ _ _ _ (c .before .before .before .before .before .before .before .before .before .before .before .before .before .before .before .before .before .loop-test .taken) refl (c .before .before .before .before .before .before .before .before .before .before .before .before .before .before .before .before .if1 .left) (c .before .before .before .before .before .before .before .before .before .before .before .before .before .before .before .comma-from .ensures .0) (c .before .before .before .before .before .before .before .before .before .before .before .before .before .before .before .comma-from .ensures .1) (c .before .before .before .before .before .before .before .before .before .before .before .before .before .trim .ensures) (c .before .before .before .before .before .before .before .before .before .before .before .operand-value .ensures) _ _ _ (c .before .before .before .before .before .before .before .v .given .1) (c .behind-comma .ensures) (c .before .before .before .before .width .ensures) (c .before .before .before .put-le .ensures), search needs)
+loop-again c = (turn (c .before .before .before .before .before .before .before .before .before .before .before .before .before .before .before .before .before .loop .inv .0) _ _ _ _ (c .before .before .before .before .before .before .before .before .before .before .before .before .before .before .before .before .loop-test .taken) refl (c .before .before .before .before .before .before .before .before .before .before .before .before .before .before .before .if1 .left) (c .before .before .before .before .before .before .before .before .before .before .before .before .before .before .comma-from .ensures .0) (c .before .before .before .before .before .before .before .before .before .before .before .before .before .before .comma-from .ensures .1) (c .before .before .before .before .before .before .before .before .before .before .before .before .trim .ensures) (c .before .before .before .before .before .before .before .before .before .before .operand-value .ensures) _ _ _ (c .before .before .before .before .before .before .v .given .1) (c .behind-comma .ensures) refl (c .before .before .before .put-value .ensures), search needs)
 
 same-length-5 : tie.Need-same-length-5 Inv-loop μ-loop
 same-length-5 c = search needs
@@ -115,10 +112,9 @@ put-operands-spec =
     trim-requires
     operand-value-requires
     enum-known-v
-    width-requires
-    put-le-requires
+    put-value-requires
     enum-known-v-2
-    add-t40
+    add-t39
     same-length-3
     same-length-4
     returns-2

@@ -1,14 +1,10 @@
-use mathlib.Core.Path.{_≡_, _∙_, ap}
+use mathlib.Core.Path.{_≡_}
 use Prim.Native.Nat.{_-_, _+_}
 use native.Mathlib.Omega.{arith}
 use lib.ListN.{length, getD}
-use Rattle.spec_sheet.specs.Types.{widthOf, kindOf}
-use Rattle.lists.specs.Scan.{part}
-use Rattle.spec_numbers.specs.LittleEndian.{le}
-use Rattle.decode.specs.Value.{operandAt, kindOfValue}
-use Rattle.decode.proofs.ValueLaws.{kind-back}
-use Rattle.decode.specs.declared.operand_value.Operand.{Operand}
-use Rattle.spec_sheet.proofs.TypeLaws.{kind-most}
+use Rattle.spec_sheet.specs.Types.{widthOf}
+use Rattle.spec_body.proofs.ReencodeLaws.{part-below}
+use Rattle.operand.proofs.ValueLaws.{operand-kind, operand-bits}
 use Rattle.sheet.proofs.RowLaws.{sum-more, sum-front}
 use Rattle.decode.proofs.OperandLoop.{Going, start, kept-length, turn, ended}
 use borrow.Author.Needs.{needs}
@@ -30,39 +26,26 @@ loop-holds c = start _ _ _ _ _
 array-read-c : tie.Need-array-read-c Inv-loop μ-loop
 array-read-c c = search needs
 
-operand-at-requires : tie.Need-operand-at-requires Inv-loop μ-loop
-operand-at-requires c κs =
-    let l = c .before .loop in
-    let a = c .before .before .before .before in
+mul-put-operand : tie.Need-mul-put-operand Inv-loop μ-loop
+mul-put-operand c = search needs
+
+add-put-operand : tie.Need-add-put-operand Inv-loop μ-loop
+add-put-operand c = search needs
+
+put-operand-requires : tie.Need-put-operand-requires Inv-loop μ-loop
+put-operand-requires c κs =
+    let l = c .before .before .loop in
+    let a = c .before .before .before .before .before in
     let h : length (a .args .t3) ≡ 8 = search needs in
-    (a .pre .1, omega (arith, l .inv .place), omega (arith, a .pre .2, l .inv .place, sum-more widthOf (a .args .t3) (l .i) (omega arith), sum-front widthOf (a .args .t3) (l .i + 1)))
-
-kind-of-requires : tie.Need-kind-of-requires Inv-loop μ-loop
-kind-of-requires c κs = search needs
-
-mul-put-pair : tie.Need-mul-put-pair Inv-loop μ-loop
-mul-put-pair c = search needs
-
-add-put-pair : tie.Need-add-put-pair Inv-loop μ-loop
-add-put-pair c = search needs
-
-wide-byte-requires : tie.Need-wide-byte-requires Inv-loop μ-loop
-wide-byte-requires c κs = search needs
-
-put-pair-requires : tie.Need-put-pair-requires Inv-loop μ-loop
-put-pair-requires c κs =
-    let l = c .before .before .before .before .before .loop in
-    let a = c .before .before .before .before .before .before .before .before in
-    let h : length (a .args .t3) ≡ 8 = search needs in
-    omega (arith, a .pre .0, kept-length _ _ _ _ _ h (a .pre .0) _ _ _ (l .inv))
+    (omega (arith, a .pre .0, kept-length _ _ _ _ _ h (a .pre .0) _ _ _ (l .inv)), a .pre .1, omega (arith, l .inv .place), omega (arith, a .pre .2, l .inv .place, sum-more widthOf (a .args .t3) (l .i) (omega arith), sum-front widthOf (a .args .t3) (l .i + 1)))
 
 width-at-requires : tie.Need-width-at-requires Inv-loop μ-loop
 width-at-requires c κs = search needs
 
 add-p-2 : tie.Need-add-p-2 Inv-loop μ-loop
 add-p-2 c =
-    let l = c .before .before .before .before .before .before .before .before .before .loop in
-    let a = c .before .before .before .before .before .before .before .before .before .before .before .before in
+    let l = c .before .before .before .before .before .before .loop in
+    let a = c .before .before .before .before .before .before .before .before .before in
     let h : length (a .args .t3) ≡ 8 = search needs in
     omega (arith, a .pre .2, l .inv .place, c .width-at .ensures, sum-more widthOf (a .args .t3) (l .i) (omega arith), sum-front widthOf (a .args .t3) (l .i + 1))
 
@@ -73,15 +56,17 @@ loop-less : tie.Need-loop-less Inv-loop μ-loop
 loop-less c = search needs
 
 loop-again : tie.Need-loop-again Inv-loop μ-loop
-unfolding operandAt
 loop-again c =
-    let l = c .before .before .before .before .before .before .before .before .before .loop in
-    let a = c .before .before .before .before .before .before .before .before .before .before .before .before in
+    let l = c .before .before .before .before .before .before .loop in
+    let a = c .before .before .before .before .before .before .before .before .before in
     let row = a .args .t3 in
     let h : length row ≡ 8 = search needs in
-    let o = c .before .before .before .before .before .before .before .operand-at .ensures in
-    let k = c .before .before .before .before .wide-byte .ensures .0 ∙ (c .before .before .before .before .before .before .kind-of .ensures ∙ (ap (λ (x : Operand). kindOfValue (x .value)) o ∙ kind-back (kindOf (getD row (l .i) 0)) (le (part (a .args .s .now) (l .p) (widthOf (getD row (l .i) 0)))) (kind-most (getD row (l .i) 0)))) in
-    rw (c .before .before .before .put-pair .ensures) (turn row (a .args .s .now) (a .args .out .now) (a .args .k) (a .args .at) h (a .pre .0) (l .out) (l .p) (l .i) (l .inv) _ _ _ (c .before .before .before .before .before .before .before .before .loop-test .taken) k (ap (λ (x : Operand). x .bits) o) (c .width-at .ensures))
+    let s = a .args .s .now in
+    let code = getD row (l .i) 0 in
+    let below = part-below s (l .p) (widthOf code) (λ i. c .before .before .before .before .before .before .before .shared-slice-known .given i .fits) in
+    rw (c .before .before .before .put-operand .ensures)
+    (turn row s (a .args .out .now) (a .args .k) (a .args .at) h (a .pre .0) (l .out) (l .p) (l .i) (l .inv) _ _ _ (c .before .before .before .before .before .loop-test .taken)
+    (operand-kind code s (l .p)) (operand-bits code s (l .p) below) (c .width-at .ensures))
 
 same-length : tie.Need-same-length Inv-loop μ-loop
 same-length c =
@@ -104,12 +89,9 @@ put-operands-spec =
     add-p
     loop-holds
     array-read-c
-    operand-at-requires
-    kind-of-requires
-    mul-put-pair
-    add-put-pair
-    wide-byte-requires
-    put-pair-requires
+    mul-put-operand
+    add-put-operand
+    put-operand-requires
     width-at-requires
     add-p-2
     add-i

@@ -61,7 +61,7 @@ put-byte-requires : tie.Need-put-byte-requires
 put-byte-requires c κs = search needs
 
 encode-operands-requires : tie.Need-encode-operands-requires
-encode-operands-requires c κs = search needs
+encode-operands-requires c κs = (c .before .before .before .before .before .before .before .before .before .before .before .before .before .before .before .pre .0, sym (c .before .before .before .before .before .before .before .before .before .before .before .before .good-shape .ensures) ∙ not-false _ (c .before .before .before .before .before .before .before .before .before .before .before .if1 .left))
 
 same-length : tie.Need-same-length
 same-length c = search needs

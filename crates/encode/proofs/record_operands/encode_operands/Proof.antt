@@ -1,10 +1,12 @@
 use Rattle.encode.proofs.OperandsLoop.{Going, start, ended, stops, refuses, turn}
-use Rattle.encode.proofs.OperandLaws.{fitted-bits, fitted-misfit}
+use Rattle.encode.proofs.ShapeLaws.{shape-pair}
+use Rattle.operand.proofs.WriteLaws.{fitted-bits, fitted-misfit, pair-kind, value-encoded}
+use Rattle.operand.specs.Write.{fittedOf}
 use Rattle.lists.proofs.Writes.{kept-length}
 use lib.ListN.{length}
 use Prim.Native.Nat.{_-_, _*_}
 use native.Mathlib.Omega.{arith}
-use mathlib.Core.Path.{_≡_, refl, sym, _∙_}
+use mathlib.Core.Path.{_≡_, refl, ap, sym, _∙_}
 use borrow.Author.Needs.{needs}
 use Rattle.encode.proofs.record_operands.encode_operands.Statement.{statement}
 use Rattle.encode.proofs.record_operands.encode_operands.Tie as tie
@@ -45,42 +47,52 @@ mul-p-2 c = search needs
 add-p-2 : tie.Need-add-p-2 Inv-loop μ-loop
 add-p-2 c = search needs
 
-mul-encode-number : tie.Need-mul-encode-number Inv-loop μ-loop
-mul-encode-number c = search needs
+add-bits : tie.Need-add-bits Inv-loop μ-loop
+add-bits c = search needs
 
-shared-slice-read-encode-number : tie.Need-shared-slice-read-encode-number Inv-loop μ-loop
-shared-slice-read-encode-number c = search needs
+mul-bits : tie.Need-mul-bits Inv-loop μ-loop
+mul-bits c = search needs
 
-add-encode-number : tie.Need-add-encode-number Inv-loop μ-loop
-add-encode-number c = search needs
+shared-slice-read-bits : tie.Need-shared-slice-read-bits Inv-loop μ-loop
+shared-slice-read-bits c = search needs
 
-mul-encode-number-2 : tie.Need-mul-encode-number-2 Inv-loop μ-loop
-mul-encode-number-2 c = search needs
+mul-value-of : tie.Need-mul-value-of Inv-loop μ-loop
+mul-value-of c = search needs
 
-shared-slice-read-encode-number-2 : tie.Need-shared-slice-read-encode-number-2 Inv-loop μ-loop
-shared-slice-read-encode-number-2 c = search needs
+shared-slice-read-value-of : tie.Need-shared-slice-read-value-of Inv-loop μ-loop
+shared-slice-read-value-of c = search needs
 
-encode-number-requires : tie.Need-encode-number-requires Inv-loop μ-loop
-encode-number-requires c κs = search needs
+cast-value-of : tie.Need-cast-value-of Inv-loop μ-loop
+cast-value-of c =
+    let a = c .before .before .before .before .before .before .before in
+    omega (arith, pair-kind _ _ (shape-pair (a .args .words .now) (20 * a .args .i) (c .before .before .before .before .loop .j) _ refl (c .before .before .before .loop-test .taken) (a .pre .1)))
 
-enum-known-v : tie.Need-enum-known-v Inv-loop μ-loop
-enum-known-v c = search needs
+value-of-requires : tie.Need-value-of-requires Inv-loop μ-loop
+value-of-requires c κs = search needs
+
+write-operand-requires : tie.Need-write-operand-requires Inv-loop μ-loop
+write-operand-requires c κs = search needs
+
+enum-known-fitted : tie.Need-enum-known-fitted Inv-loop μ-loop
+enum-known-fitted c = search needs
 
 enum-told : tie.Need-enum-told Inv-loop μ-loop
 enum-told c = search needs
 
-add-t25 : tie.Need-add-t25 Inv-loop μ-loop
-add-t25 c = search needs
+add-t26 : tie.Need-add-t26 Inv-loop μ-loop
+add-t26 c = search needs
 
 same-length-2 : tie.Need-same-length-2 Inv-loop μ-loop
-same-length-2 c = kept-length (c .before .before .before .before .before .before .before .loop .inv .wrote)
+same-length-2 c = kept-length (c .before .before .before .before .before .before .before .before .loop .inv .wrote)
 
 returns-2 : tie.Need-returns-2 Inv-loop μ-loop
 returns-2 c =
-    let l = c .before .before .before .before .before .before .before .loop in
-    let a = c .before .before .before .before .before .before .before .before .before .before .args in
-    let h : length (a .t1) ≡ 8 = search needs in
-    refuses (a .i) (a .t1) _ _ _ _ _ _ _ (l .inv) (omega arith) (c .before .before .before .before .before .before .loop-test .taken) (c .before .before .before .before .before .if1 .left) _ refl _ (fitted-misfit _ (sym (c .before .before .encode-number .ensures) ∙ c .enum-told .given .1))
+    let l = c .before .before .before .before .before .before .before .before .loop in
+    let a = c .before .before .before .before .before .before .before .before .before .before .before in
+    let t = c .before .before .before .before .before .before .before .loop-test .taken in
+    let h : length (a .args .t1) ≡ 8 = search needs in
+    let e = value-encoded _ _ _ _ (shape-pair (a .args .words .now) (20 * a .args .i) (l .j) _ refl t (a .pre .1)) (c .before .before .before .value-of .ensures) in
+    refuses (a .args .i) (a .args .t1) _ _ _ _ _ _ _ (l .inv) (omega arith) t (c .before .before .before .before .before .before .if1 .left) _ refl _ (fitted-misfit _ (sym (c .before .before .write-operand .ensures ∙ ap fittedOf e) ∙ c .enum-told .given .1))
 
 width-requires : tie.Need-width-requires Inv-loop μ-loop
 width-requires c κs = search needs
@@ -96,11 +108,13 @@ loop-less c = search needs
 
 loop-again : tie.Need-loop-again Inv-loop μ-loop
 loop-again c =
-    let l = c .before .before .before .before .before .before .before .before .before .before .before .before .before .loop in
-    let a = c .before .before .before .before .before .before .before .before .before .before .before .before .before .before .before .before .args in
-    let h : length (a .t1) ≡ 8 = search needs in
-    turn (a .i) (a .t1) _ _ _ _ _ _ _ (l .inv) (omega arith) (c .before .before .before .before .before .before .before .before .before .before .before .before .loop-test .taken) (c .before .before .before .before .before .before .before .before .before .before .before .if1 .left) _ refl _ _ _ _
-    (fitted-bits _ _ (sym (c .before .before .before .before .before .before .before .before .encode-number .ensures) ∙ c .before .before .before .before .before .before .v .given .1)) (c .before .before .before .width .ensures) (c .before .before .put-le .ensures)
+    let l = c .before .before .before .before .before .before .before .before .before .before .before .before .before .before .loop in
+    let a = c .before .before .before .before .before .before .before .before .before .before .before .before .before .before .before .before .before in
+    let t = c .before .before .before .before .before .before .before .before .before .before .before .before .before .loop-test .taken in
+    let h : length (a .args .t1) ≡ 8 = search needs in
+    let e = value-encoded _ _ _ _ (shape-pair (a .args .words .now) (20 * a .args .i) (l .j) _ refl t (a .pre .1)) (c .before .before .before .before .before .before .before .before .before .value-of .ensures) in
+    turn (a .args .i) (a .args .t1) _ _ _ _ _ _ _ (l .inv) (omega arith) t (c .before .before .before .before .before .before .before .before .before .before .before .before .if1 .left) _ refl _ _ _ _
+    (fitted-bits _ _ (sym (c .before .before .before .before .before .before .before .before .write-operand .ensures ∙ ap fittedOf e) ∙ c .before .before .before .before .before .before .fitted .given .1)) (c .before .before .before .width .ensures) (c .before .before .put-le .ensures)
 
 same-length-3 : tie.Need-same-length-3 Inv-loop μ-loop
 same-length-3 c = kept-length (c .before .loop .inv .wrote)
@@ -126,15 +140,17 @@ encode-operands-spec =
     add-p
     mul-p-2
     add-p-2
-    mul-encode-number
-    shared-slice-read-encode-number
-    add-encode-number
-    mul-encode-number-2
-    shared-slice-read-encode-number-2
-    encode-number-requires
-    enum-known-v
+    add-bits
+    mul-bits
+    shared-slice-read-bits
+    mul-value-of
+    shared-slice-read-value-of
+    cast-value-of
+    value-of-requires
+    write-operand-requires
+    enum-known-fitted
     enum-told
-    add-t25
+    add-t26
     same-length-2
     returns-2
     width-requires

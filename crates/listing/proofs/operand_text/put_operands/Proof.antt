@@ -1,9 +1,9 @@
-use Rattle.spec_sheet.proofs.TypeLaws.{width-most}
+use Rattle.operand.proofs.ValueLaws.{read-bits, read-below}
 use Prim.Native.Nat.{_-_}
 use lib.ListN.{length, getD}
 use mathlib.Core.Path.{_≡_, refl}
 use native.Mathlib.Omega.{arith}
-use Rattle.listing.proofs.OperandsLoop.{Going, start, operand-room, turn, stopped, ended, read-bits}
+use Rattle.listing.proofs.OperandsLoop.{Going, start, operand-room, turn, stopped, ended}
 use borrow.Author.Needs.{needs}
 use Rattle.listing.proofs.operand_text.put_operands.Statement.{statement}
 use Rattle.listing.proofs.operand_text.put_operands.Tie as tie
@@ -31,29 +31,31 @@ returns c =
     let h : length (c .before .before .before .before .before .before .before .args .t6) ≡ 8 = search needs in
     stopped (c .before .before .loop .inv) _ (c .before .loop-test .taken) h refl (c .if1 .taken)
 
-width-requires : tie.Need-width-requires Inv-loop μ-loop
-width-requires c κs = search needs
+read-operand-requires : tie.Need-read-operand-requires Inv-loop μ-loop
+read-operand-requires c κs =
+    let l = c .before .before .loop in
+    let h : length (c .before .before .before .before .before .before .before .args .t6) ≡ 8 = search needs in
+    omega (arith, operand-room (l .inv) _ (omega arith) refl)
 
-read-le-requires : tie.Need-read-le-requires Inv-loop μ-loop
-read-le-requires c κs =
-    let l = c .before .before .before .loop in
-    let row = c .before .before .before .before .before .before .before .before .args .t6 in
-    let h : length row ≡ 8 = search needs in
-    (omega (arith, operand-room (l .inv) _ (omega arith) (c .width .ensures)), omega (arith, c .width .ensures, width-most (getD row (l .i) 0)))
+bits-of-requires : tie.Need-bits-of-requires Inv-loop μ-loop
+bits-of-requires c κs = search needs
 
 put-separator-requires : tie.Need-put-separator-requires Inv-loop μ-loop
 put-separator-requires c κs = search needs
 
 put-operand-requires : tie.Need-put-operand-requires Inv-loop μ-loop
 put-operand-requires c κs =
-    let k = c .before .before .before .before .before .before .before .before .before .before in
-    let a = k .before .before .before .before in
-    (omega (arith, a .pre), read-bits (a .args .s .now) (c .before .before .before .before .before .before .before .before .before .loop .p) _ _ _ (λ i. k .shared-slice-known3 .given i .fits) (c .before .before .before .before .before .before .width .ensures) (c .before .before .before .before .before .read-le .ensures))
+    let a = c .before .before .before .before .before .before .before .before .before .before .before .before .before .before in
+    let o = c .before .before .before .before .before .before .read-operand .ensures in
+    (omega (arith, a .pre), read-below _ (a .args .s .now) (c .before .before .before .before .before .before .before .before .before .loop .p) _ _ (o .0) (o .1) (c .before .before .before .before .before .bits-of .ensures))
+
+width-requires : tie.Need-width-requires Inv-loop μ-loop
+width-requires c κs = search needs
 
 add-p-2 : tie.Need-add-p-2 Inv-loop μ-loop
 add-p-2 c =
-    let h : length (c .before .before .before .before .before .before .before .before .before .before .before .before .before .before .before .before .before .args .t6) ≡ 8 = search needs in
-    omega (arith, operand-room (c .before .before .before .before .before .before .before .before .before .before .before .before .loop .inv) _ (omega arith) (c .before .before .before .before .before .before .before .before .before .width .ensures))
+    let h : length (c .before .before .before .before .before .before .before .before .before .before .before .before .before .before .before .before .before .before .args .t6) ≡ 8 = search needs in
+    omega (arith, operand-room (c .before .before .before .before .before .before .before .before .before .before .before .before .before .loop .inv) _ (omega arith) (c .width .ensures))
 
 add-i : tie.Need-add-i Inv-loop μ-loop
 add-i c = search needs
@@ -63,8 +65,12 @@ loop-less c = search needs
 
 loop-again : tie.Need-loop-again Inv-loop μ-loop
 loop-again c =
-    let h : length (c .before .before .before .before .before .before .before .before .before .before .before .before .before .before .before .before .before .args .t6) ≡ 8 = search needs in
-    turn (c .before .before .before .before .before .before .before .before .before .before .before .before .loop .inv) _ _ _ (c .before .before .before .before .before .before .before .before .before .before .before .loop-test .taken) h refl (c .before .before .before .before .before .before .before .before .before .before .if1 .left) (c .before .before .before .before .before .before .before .before .before .width .ensures) (c .before .before .before .before .before .before .before .before .read-le .ensures) (c .before .before .before .before .before .before .put-separator .ensures) (c .before .before .put-operand .ensures)
+    let a = c .before .before .before .before .before .before .before .before .before .before .before .before .before .before .before .before .before .before in
+    let l = c .before .before .before .before .before .before .before .before .before .before .before .before .before .loop in
+    let h : length (a .args .t6) ≡ 8 = search needs in
+    let o = c .before .before .before .before .before .before .before .before .before .before .read-operand .ensures in
+    let b = read-bits _ (a .args .s .now) (l .p) _ _ (o .0) (o .1) (c .before .before .before .before .before .before .before .before .before .bits-of .ensures) in
+    turn (l .inv) _ _ _ (c .before .before .before .before .before .before .before .before .before .before .before .before .loop-test .taken) h refl (c .before .before .before .before .before .before .before .before .before .before .before .if1 .left) (c .width .ensures) (rw (← (c .width .ensures)) at b) (c .before .before .before .before .before .before .before .put-separator .ensures) (c .before .before .before .put-operand .ensures)
 
 same-length-2 : tie.Need-same-length-2 Inv-loop μ-loop
 same-length-2 c = c .before .loop .inv .left .same-size
@@ -85,10 +91,11 @@ put-operands-spec =
     array-read-code
     same-length
     returns
-    width-requires
-    read-le-requires
+    read-operand-requires
+    bits-of-requires
     put-separator-requires
     put-operand-requires
+    width-requires
     add-p-2
     add-i
     loop-less

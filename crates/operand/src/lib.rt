@@ -1,0 +1,4 @@
+// An operand's value: OperandValue of instructions.rs, read from a body (instructions.rs) and written as bytes (encode.rs).
+pub mod read; // the operand of a type at a place of a body
+pub mod value; // the enum, made from a kind and bits and turned back into them
+pub mod write; // a value into an operand of a type, with its conversions

@@ -3,7 +3,7 @@ use mathlib.Core.Path.{_≡_, refl, sym, _∙_}
 use mathlib.Core.List.{List, [], _∷_}
 use Prim.Native.Nat.{ℕ, _+_, _-_, _<_, _≤_}
 use native.Mathlib.Omega.{arith}
-use lib.ListN.{length, take, drop, length-drop}
+use lib.ListN.{length, take, drop}
 use lib.Seq.{drop-drop}
 use Rattle.lists.specs.Found.{Found}
 use Rattle.lists.specs.Found.Found.{found, missing}
@@ -76,7 +76,3 @@ module _ (e : Context) (labels : List ℕ → Found) (s : List ℕ) (place : Pla
         → operandsFrom e labels (place .offset) 1 (rowOf e op) (tokens (splitOutside (take (length s - a) (drop a s)))) ≡ refusedOperand f operand
         → operandsOf e labels s (place .offset) ≡ refusedOperand f operand
     put-refused h = rw (sym its, operands-here) h
-
--- what is left of s from a on is no longer
-pub tail-short : (s : List ℕ) (a m : ℕ) → length s ≤ m → length (take (length s - a) (drop a s)) ≤ m
-tail-short s a m h = rw (tail-part s a, length-drop) (omega arith)

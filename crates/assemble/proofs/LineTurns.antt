@@ -1,9 +1,8 @@
 -- One line of a text, written. Assumes nothing.
 use mathlib.Core.Path.{_≡_, ap, sym, _∙_}
 use mathlib.Core.List.{List}
-use Prim.Native.Nat.{ℕ, _+_, _-_, _≤_}
+use Prim.Native.Nat.{ℕ, _+_, _-_}
 use native.Mathlib.Omega.{arith}
-use lib.ListN.{length, take, drop, length-take, length-drop}
 use Rattle.lists.specs.Found.{Found}
 use Rattle.lists.specs.Scan.{part}
 use Rattle.spec_inputs.specs.Context.{Context}
@@ -19,10 +18,6 @@ use Rattle.assemble.specs.declared.operands.Place.{Place}
 use Rattle.assemble.specs.declared.instruction.Step.{Step}
 use Rattle.assemble.specs.declared.instruction.Step.the-variants.{On, Refused}
 use Rattle.assemble.proofs.BodyLoop.{body-nothing, body-label, body-written, body-refused}
-
--- a part of a line is no longer
-pub part-short : (l line : List ℕ) (a b m : ℕ) → l ≡ line → length line ≤ m → length (take (b - a) (drop a l)) ≤ m
-part-short l line a b m i h = rw (length-take, length-drop, i) (omega arith)
 
 module _ (e : Context) (labels : List ℕ → Found) (s : List ℕ) (at end : ℕ) (place : Place) (h : LineAt s at end (place .offset)) (l : List ℕ) (i : l ≡ lineIn s at end)
     {out₀ out : List ℕ} {n : ℕ} (g : Going e labels s out₀ out at n place) where

@@ -6,6 +6,7 @@ use Prim.Native.Nat.{ℕ, _≤_}
 use native.Mathlib.Omega.{arith}
 use lib.ListN.{length, take}
 use lib.Seq.{take-all}
+use Rattle.limits.specs.Limits.{textLimit}
 use Rattle.answers.specs.Report.{zeros}
 use Rattle.answers.specs.Refusals.{refusalReport}
 use Rattle.answers.specs.Outcome.{Ended}
@@ -17,6 +18,7 @@ use Rattle.spec_hasm.specs.Assemble.{Assembled, codesOf, unlessBadLine, unlessB
 use Rattle.spec_hasm.specs.Assemble.Assembled.{notAssembled}
 use Rattle.spec_hasm.specs.Operation.{assembleOutcome}
 use Rattle.sheet.specs.Keys.{NamesIndexed}
+use Rattle.hasm_read.specs.Lines.{ShortLines}
 use Rattle.hasm_labels.specs.NamesRead.{AllNamed}
 use Rattle.operation.specs.Ends.{measuredOf, leftBy, measuredReport}
 use Rattle.operation.specs.declared.ending.Measured.{Measured}
@@ -32,10 +34,10 @@ unfolding assembleText assembleCodes
 good-text e text l n = l _ ∙ n _
 
 -- what the search for a label asks for
-pub labels-known : {text source : List ℕ} (names : List ℕ) {types ops slots held : List (List ℕ)} {count : ℕ} (fits : Bool) → NamesIndexed source ops names → length text ≤ 1048576
+pub labels-known : {text source : List ℕ} (names : List ℕ) {types ops slots held : List (List ℕ)} {count : ℕ} (fits : Bool) → NamesIndexed source ops names → length text ≤ textLimit → ShortLines text
     → NamesGood source types ops text count slots → (fits ≡ true → count ≤ length slots) → (count ≤ length slots → held ≡ take count slots) → LabelsKnown text source types ops names held fits
-labels-known names fits i l n f h = (
-  (i, l),
+labels-known names fits i l s n f h = (
+  (i, l, s),
   λ bytes ends. record {
     named = n bytes ends .named;
     whole = λ t. let fit = f t in rw (h fit) (n bytes ends .held fit);

@@ -6,6 +6,7 @@ use lib.ListN.{length, drop}
 use Rattle.lists.specs.Found.{Found}
 use Rattle.lists.specs.Scan.{run}
 use Rattle.lists.specs.Write.{Put}
+use Rattle.limits.specs.Limits.{lineLimit}
 use Rattle.spec_inputs.specs.Context.{Context}
 use Rattle.spec_hasm.specs.Text.{linesOf}
 use Rattle.spec_hasm.specs.Assemble.{Assembled, codesFrom, codesOf, behind, bytesFrom}
@@ -30,7 +31,7 @@ pub record Going (e : Context) (labels : List ℕ → Found) (s out₀ out : Lis
 pub record LineAt (s : List ℕ) (at end o : ℕ) : Type 0 where
   pub inside : at < length s
   pub ends : end ≡ at + run notFeed (drop at s)
-  pub short : length (lineIn s at end) ≤ 4096
+  pub short : length (lineIn s at end) ≤ lineLimit
   pub small : o < 2147483648
 
 -- behind line n, which ends in front of `at`: the next line, or that an operand is refused

@@ -1,10 +1,8 @@
 // All instructions of a text as bytes.
-ghost use mathlib.Core.Path.{_≡_};
 ghost use Prim.Native.Nat.{_≤_};
 ghost use lib.ListN.{length};
 ghost use Rattle.limits.specs.Limits.{lineLimit};
-ghost use Rattle.spec_hasm.specs.Text.{linesOf};
-ghost use Rattle.spec_hasm.specs.Assemble.{Assembled, unlessBadLine, codesOf, bytesFrom};
+ghost use Rattle.spec_hasm.specs.Assemble.{codesOf, bytesFrom};
 ghost use Rattle.strings.specs.Keys.{TextsIndexed};
 ghost use Rattle.assemble.specs.Contexts.{labelsOf, LabelsKnown};
 ghost use Rattle.spec_inputs.specs.Context.{contextFrom};
@@ -21,7 +19,7 @@ pub enum Bytes {
     Refused(Refusal),
 }
 
-// Writes the instructions of a text whose lines and names are good.
+// Writes the instructions of a text whose lines are short and whose names are good.
 pub(crate) fn put_instructions(
     bytes: &[u8],
     ends: &[u32],
@@ -38,7 +36,6 @@ pub(crate) fn put_instructions(
 ) -> Bytes
     requires { ⌜ TextsIndexed (now bytes) (now ends) (now ids) × (lineLimit ≤ length (now work)) ⌝ }
     requires { ⌜ LabelsKnown (now text) (now sheet) (now types) (now ops) (now names) (now labels) fits ⌝ }
-    requires { ⌜ ((rest : Assembled) → unlessBadLine 1 (linesOf (now text)) rest ≡ rest) ⌝ }
     ensures { λ r. ⌜ BytesPut (bytesFrom (contextFrom (now (sheet .entry)) (now (types .entry)) (now (ops .entry)) (now (bytes .entry)) (now (ends .entry))) (labelsOf (contextFrom (now (sheet .entry)) (now (types .entry)) (now (ops .entry)) (now (bytes .entry)) (now (ends .entry))) (now (text .entry))) 0 (codesOf (contextFrom (now (sheet .entry)) (now (types .entry)) (now (ops .entry)) (now (bytes .entry)) (now (ends .entry))) (now (text .entry)))) (now (out .entry)) (now (out .exit)) r ⌝ }
 {
     let mut place = Place { offset: 0, k: 0 };

@@ -7,6 +7,7 @@ use mathlib.Core.List.{List, [], _∷_, _++_, append-assoc}
 use lib.ListN.{length, drop, length-take}
 use lib.Seq.{take-take, drop-drop}
 use Rattle.lists.specs.Scan.{run, part}
+use Rattle.limits.specs.Limits.{textLimit}
 use Rattle.spec_inputs.specs.Context.{Context}
 use Rattle.spec_hasm.specs.Text.{linesOf}
 use Rattle.spec_hasm.specs.Line as definition
@@ -112,7 +113,7 @@ module _ (e : Context) (text t : List ℕ) (slots₀ : List (List ℕ)) (at n en
         noted = g .noted;
       }
 
-  pub turn-label : length text ≤ 1048576 → (a i : ℕ) → statementOf e (lineIn text at end) ≡ labelled (part (lineIn text at end) a i) → a + i ≤ length (lineIn text at end)
+  pub turn-label : length text ≤ textLimit → (a i : ℕ) → statementOf e (lineIn text at end) ≡ labelled (part (lineIn text at end) a i) → a + i ≤ length (lineIn text at end)
       → Going e text t slots₀ (end + 1) (n + 1) (labelRead p (at + a) i) slots
   turn-label b a i x r =
       let f = part-part text at (lineLength text at end) a i r in
@@ -179,7 +180,7 @@ module _ (e : Context) (text t : List ℕ) (slots₀ : List (List ℕ)) (at n en
     pub line-nothing : StatementIn (statementOf e l) l Nothing → Going e text t slots₀ (end + 1) (n + 1) p slots
     line-nothing u = turn-nothing (was-nothing (statementOf e (lineIn text at end)) (lineIn text at end) (rw f at u))
 
-    pub line-label : length text ≤ 1048576 → (a i : ℕ) → StatementIn (statementOf e l) l (LabelRead a i) → Going e text t slots₀ (end + 1) (n + 1) (labelRead p (at + a) i) slots
+    pub line-label : length text ≤ textLimit → (a i : ℕ) → StatementIn (statementOf e l) l (LabelRead a i) → Going e text t slots₀ (end + 1) (n + 1) (labelRead p (at + a) i) slots
     line-label b a i u =
         let v = was-label (statementOf e (lineIn text at end)) (lineIn text at end) a i (rw f at u) in
         turn-label b a i (v .0) (v .1)

@@ -7,9 +7,11 @@ use mathlib.Core.List.{List, [], _++_, append-nil}
 use lib.ListN.{length, take, drop}
 use lib.Seq.{take-nil}
 use Rattle.lists.specs.Scan.{run}
+use Rattle.limits.specs.Limits.{textLimit}
 use Rattle.spec_inputs.specs.Context.{Context}
 use Rattle.spec_hasm.specs.Assemble.{Assembled, Code, LabelAt, codesOf, unlessBadName, labelsFrom, labelOffset}
-use Rattle.hasm_read.specs.Lines.{notFeed}
+use Rattle.hasm_read.specs.Lines.{notFeed, ShortLines}
+use Rattle.hasm_read.proofs.LineLaws.{short-here}
 use Rattle.hasm_labels.specs.Going.{LineAt, Going}
 use Rattle.hasm_labels.specs.NamesRead.{AllNamed}
 use Rattle.hasm_labels.specs.declared.hold_label.Progress.{Progress}
@@ -39,13 +41,14 @@ going-start e text t slots =
 
 -- the next line
 pub going-line : {e : Context} {text t : List ℕ} {slots₀ : List (List ℕ)} {at n : ℕ} {p : Progress} {slots : List (List ℕ)} (end : ℕ) → Going e text t slots₀ at n p slots → at < length text
-    → (end ≡ at + run notFeed (drop at text)) × (end ≤ length text) → length text ≤ 1048576 → LineAt text at end p
-going-line end g h k s =
+    → (end ≡ at + run notFeed (drop at text)) × (end ≤ length text) → length text ≤ textLimit → ShortLines (drop at text) → LineAt text at end p
+going-line {text = text} {at = at} end g h k s f =
     record {
       inside = h;
       ends = k .0;
       near = k .1;
-      short = s;
+      limited = s;
+      short = short-here text at end h (k .0) f;
       small = record {
         start = omega (arith, g .start);
         size = omega (arith, g .size);
@@ -62,7 +65,7 @@ no-labels : (e : Context) (at : ℕ) → labelsFrom e at [] ≡ []
 unfolding labelsFrom
 no-labels e at = refl
 
-pub going-end : (e : Context) (text t : List ℕ) (slots₀ : List (List ℕ)) (at n : ℕ) (p : Progress) (slots : List (List ℕ)) → Going e text t slots₀ at n p slots → length text ≤ at → length text ≤ 1048576
+pub going-end : (e : Context) (text t : List ℕ) (slots₀ : List (List ℕ)) (at n : ℕ) (p : Progress) (slots : List (List ℕ)) → Going e text t slots₀ at n p slots → length text ≤ at → length text ≤ textLimit
     → AllNamed e text t slots₀ slots (p .count) (p .has) (p .place)
 going-end e text t slots₀ at n p slots g h s =
     let c = codes-none e n (g .waiting) text at h in

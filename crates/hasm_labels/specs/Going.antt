@@ -5,11 +5,12 @@ use mathlib.Core.Bool.{false}
 use mathlib.Core.List.{List, _++_}
 use lib.ListN.{length, drop}
 use Rattle.lists.specs.Scan.{run}
+use Rattle.limits.specs.Limits.{lineLimit, textLimit}
 use Rattle.spec_inputs.specs.Context.{Context}
 use Rattle.spec_hasm.specs.Text.{linesOf}
 use Rattle.spec_hasm.specs.Assemble.{Assembled, LabelLine, LabelAt, codesFrom, codesOf, unlessBadName, labelsFrom}
 use Rattle.spec_hasm.specs.Assemble.Assembled.{notAssembled}
-use Rattle.hasm_read.specs.Lines.{notFeed}
+use Rattle.hasm_read.specs.Lines.{notFeed, lineIn}
 use Rattle.hasm_labels.specs.Holding.{Waits, Small, Noted, NotedMore}
 use Rattle.hasm_labels.specs.NameReads.{RefusedBy, Sized}
 use Rattle.hasm_labels.specs.declared.hold_label.Progress.{Progress}
@@ -33,12 +34,13 @@ abbrev pub CodeTaken : Context → ℕ → List ℕ → List ℕ → List ℕ �
 CodeTaken e n s text t slots p slots′ (On p′) = Passed e n s text t slots p slots′ p′
 CodeTaken e n s text t slots p slots′ (Refused x) = RefusedBy e n s x
 
--- a line of a text, from `at` to its end: "text to 1,048,576 bytes"
+-- a line of a text, from `at` to its end, which 3 does not refuse: "text to 1,048,576 bytes"
 pub record LineAt (text : List ℕ) (at end : ℕ) (p : Progress) : Type 0 where
   pub inside : at < length text
   pub ends : end ≡ at + run notFeed (drop at text)
   pub near : end ≤ length text
-  pub short : length text ≤ 1048576
+  pub limited : length text ≤ textLimit
+  pub short : length (lineIn text at end) ≤ lineLimit
   pub small : Small p
 
 -- the pass stands in front of the line at `at`, which is line n: names and labels of the text are those from here on, behind
@@ -46,8 +48,8 @@ pub record LineAt (text : List ℕ) (at end : ℕ) (p : Progress) : Type 0 where
 pub record Going (e : Context) (text t : List ℕ) (slots₀ : List (List ℕ)) (at n : ℕ) (p : Progress) (slots : List (List ℕ)) : Type 0 where
   pub near : at ≤ length text + 1
   pub few : n ≤ at + 1
-  pub start : p .start ≤ 1048576
-  pub size : p .size ≤ 1048576
+  pub start : p .start ≤ textLimit
+  pub size : p .size ≤ textLimit
   pub count : p .count ≤ at
   pub offset : p .offset ≤ 65 * at
   pub place : p .place ≤ 65 * at

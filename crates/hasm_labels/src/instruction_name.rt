@@ -1,6 +1,8 @@
 // The name of an instruction and how many operands it has.
 ghost use mathlib.Core.List.{List};
-ghost use Prim.Native.Nat.{ℕ};
+ghost use Prim.Native.Nat.{ℕ, _≤_};
+ghost use lib.ListN.{length};
+ghost use Rattle.limits.specs.Limits.{lineLimit};
 ghost use Rattle.sheet.specs.Keys.{NamesIndexed};
 ghost use Rattle.hasm_labels.specs.NameReads.{NameRead};
 use answers::refusal::Refusal;
@@ -22,6 +24,7 @@ pub(crate) fn read_name(
     names: &[u32],
 ) -> Named
     requires { ⌜ NamesIndexed (now sheet) (now ops) (now names) ⌝ }
+    requires { ⌜ length (now s) ≤ lineLimit ⌝ }
     ensures { λ r. ⌜ ((bytes ends : List ℕ) → NameRead (record { sheet = now (sheet .entry); types = now (types .entry); infos = now (ops .entry); bytes = bytes; ends = ends }) n (now (s .entry)) r) ⌝ }
 {
     let k = hasm_read::white_space::skip(s, 0, false);

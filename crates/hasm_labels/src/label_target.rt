@@ -6,6 +6,7 @@ ghost use lib.ListN.{length};
 ghost use Rattle.limits.specs.Limits.{textLimit};
 ghost use Rattle.slices.specs.Answers.{foundOf};
 ghost use Rattle.sheet.specs.Keys.{NamesIndexed};
+ghost use Rattle.hasm_read.specs.Lines.{ShortLines};
 ghost use Rattle.spec_hasm.specs.Assemble.{codesOf, labelsFrom, labelOffset};
 ghost use Rattle.hasm_labels.specs.Labelled.{Labelled};
 use crate::label_entry::Slot;
@@ -24,7 +25,7 @@ pub fn label_offset(
     t: &[u8],
 ) -> Found
     requires { ⌜ NamesIndexed (now sheet) (now ops) (now names) ⌝ }
-    requires { ⌜ length (now text) ≤ textLimit ⌝ }
+    requires { ⌜ (length (now text) ≤ textLimit) × ShortLines (now text) ⌝ }
     requires { ⌜ ((bytes ends : List ℕ) → Labelled (record { sheet = now sheet; types = now types; infos = now ops; bytes = bytes; ends = ends }) (now text) (now labels) fits) ⌝ }
     ensures { λ r. ⌜ ((bytes ends : List ℕ) → r ≡ foundOf (labelOffset (labelsFrom (record { sheet = now (sheet .entry); types = now (types .entry); infos = now (ops .entry); bytes = bytes; ends = ends }) 0 (codesOf (record { sheet = now (sheet .entry); types = now (types .entry); infos = now (ops .entry); bytes = bytes; ends = ends }) (now (text .entry)))) (now (t .entry)))) ⌝ }
 {

@@ -4,6 +4,7 @@ ghost use Prim.Native.Nat.{ℕ, _≤_};
 ghost use lib.ListN.{length};
 ghost use Rattle.limits.specs.Limits.{textLimit};
 ghost use Rattle.sheet.specs.Keys.{NamesIndexed};
+ghost use Rattle.hasm_read.specs.Lines.{ShortLines};
 ghost use Rattle.hasm_labels.specs.NamesRead.{NamesRead};
 use crate::hold_label::Progress;
 use crate::label_entry::Slot;
@@ -32,7 +33,7 @@ pub fn read_names(
     t: &[u8],
 ) -> Names
     requires { ⌜ NamesIndexed (now sheet) (now ops) (now names) ⌝ }
-    requires { ⌜ length (now text) ≤ textLimit ⌝ }
+    requires { ⌜ (length (now text) ≤ textLimit) × ShortLines (now text) ⌝ }
     ensures { λ r. ⌜ ((bytes ends : List ℕ) → NamesRead (record { sheet = now (sheet .entry); types = now (types .entry); infos = now (ops .entry); bytes = bytes; ends = ends }) (now (text .entry)) (now (t .entry)) (now (labels .entry)) (now (labels .exit)) r) ⌝ }
 {
     let mut p = Progress {

@@ -1,6 +1,8 @@
 // One line of the pass over names and labels.
 ghost use mathlib.Core.List.{List};
-ghost use Prim.Native.Nat.{ℕ, _+_};
+ghost use Prim.Native.Nat.{ℕ, _+_, _≤_};
+ghost use lib.ListN.{length};
+ghost use Rattle.limits.specs.Limits.{lineLimit};
 ghost use Rattle.sheet.specs.Keys.{NamesIndexed};
 ghost use Rattle.hasm_labels.specs.Holding.{Small};
 ghost use Rattle.hasm_labels.specs.Going.{CodeTaken, LineAt, Going, Turned};
@@ -30,7 +32,7 @@ fn take_code(
     p: Progress,
 ) -> Step
     requires { ⌜ NamesIndexed (now sheet) (now ops) (now names) ⌝ }
-    requires { ⌜ Small p ⌝ }
+    requires { ⌜ (length (now s) ≤ lineLimit) × Small p ⌝ }
     ensures { λ r. ⌜ ((bytes ends : List ℕ) → CodeTaken (record { sheet = now (sheet .entry); types = now (types .entry); infos = now (ops .entry); bytes = bytes; ends = ends }) n (now (s .entry)) (now (text .entry)) (now (t .entry)) (now (labels .entry)) p (now (labels .exit)) r) ⌝ }
 {
     let named = crate::instruction_name::read_name(s, n, sheet, types, ops, names);

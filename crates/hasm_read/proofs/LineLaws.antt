@@ -13,10 +13,11 @@ use Rattle.lists.specs.Scan.{run}
 use Rattle.lists.proofs.Scans.{run-cons-go, run-cons-stop}
 use Rattle.lists.proofs.Tests.{by-eqb, by-leb, both-no-left, both-no-right}
 use Rattle.lists.proofs.Parts.{part-rest}
+use Rattle.limits.specs.Limits.{lineLimit}
 use Rattle.spec_hasm.specs.Text.{onto, linesOf}
 use Rattle.hasm_read.specs.Quotes.{byteBefore}
 use Rattle.hasm_read.proofs.QuoteLaws.{before-last}
-use Rattle.hasm_read.specs.Lines.{notFeed, lineLength, lineIn}
+use Rattle.hasm_read.specs.Lines.{notFeed, lineLength, lineIn, ShortLines}
 
 -- the clauses of the lines and of their end, each by the bytes that pick it
 module _ (b : ℕ) (s : List ℕ) where
@@ -213,3 +214,11 @@ module _ (s : List ℕ) (at end : ℕ) (h : at < length s) (e : end ≡ at + run
           by-leb end at
           (λ l. let z : end - at ≡ 0 = omega arith in length-none s at end l ∙ sym z)
           (λ l. length-bare s at end (λ c. n (before-is l ∙ c)))
+
+  -- where all lines from a place on are short, the one that stands there is, and so are those behind its end
+  module _ (f : ShortLines (drop at s)) where
+    pub short-here : length (lineIn s at end) ≤ lineLimit
+    short-here = rw line-next at (f 0)
+
+    pub short-behind : ShortLines (drop (end + 1) s)
+    short-behind i = rw line-next at (f (suc i))

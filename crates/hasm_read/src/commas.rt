@@ -2,15 +2,17 @@
 ghost use mathlib.Core.Path.{_≡_};
 ghost use Prim.Native.Nat.{_+_, _≤_};
 ghost use lib.ListN.{length, drop};
+ghost use Rattle.limits.specs.Limits.{lineLimit};
 ghost use Rattle.spec_hasm.specs.Split.{splitOutside, tokens};
 ghost use Rattle.hasm_read.specs.Commas.{commaAt, commaInside};
 use crate::quote::is_quote_at;
 use crate::white_space::trim;
 
-// Where the first comma outside quotes stands, or the end, from a place outside quotes on. Each quote takes stack, so a line's
-// length is tested first.
+// Where the first comma outside quotes stands, or the end, from a place outside quotes on. Each quote takes stack, so the
+// contracts ask for what stands on a line within 3's limit.
 pub fn comma_from(s: &[u8], at: usize) -> usize
     requires { ⌜ at ≤ length (now s) ⌝ }
+    requires { ⌜ length (now s) ≤ lineLimit ⌝ }
     ensures { λ r. ⌜ (r ≡ at + commaAt (drop at (now (s .entry)))) × (r ≤ length (now (s .entry))) ⌝ }
 {
     let mut i = at;
@@ -30,6 +32,7 @@ pub fn comma_from(s: &[u8], at: usize) -> usize
 // The same from a place inside quotes on.
 fn comma_inside(s: &[u8], at: usize) -> usize
     requires { ⌜ at ≤ length (now s) ⌝ }
+    requires { ⌜ length (now s) ≤ lineLimit ⌝ }
     ensures { λ r. ⌜ (r ≡ at + commaInside (drop at (now (s .entry)))) × (r ≤ length (now (s .entry))) ⌝ }
 {
     let mut i = at;
@@ -45,6 +48,7 @@ fn comma_inside(s: &[u8], at: usize) -> usize
 
 // How many operands there are: one for each part, but for a last one that is blank.
 pub fn count_operands(s: &[u8]) -> usize
+    requires { ⌜ length (now s) ≤ lineLimit ⌝ }
     ensures { λ r. ⌜ r ≡ length (tokens (splitOutside (now (s .entry)))) ⌝ }
 {
     let mut at: usize = 0;

@@ -2,6 +2,7 @@
 ghost use mathlib.Core.Path.{_≡_};
 ghost use Prim.Native.Nat.{_+_, _<_, _≤_};
 ghost use lib.ListN.{length, drop};
+ghost use Rattle.limits.specs.Limits.{lineLimit};
 ghost use Rattle.spec_hasm.specs.Comment.{isComment, outside, inside};
 ghost use Rattle.hasm_read.specs.Quotes.{byteBefore};
 use crate::quote::is_quote_at;
@@ -21,9 +22,11 @@ fn is_comment_at(s: &[u8], i: usize) -> bool
     }
 }
 
-// Where the comment starts, or the line's end, from a place outside quotes on.
+// Where the comment starts, or the line's end, from a place outside quotes on. Each quote takes stack, so the contracts ask for
+// a line within 3's limit.
 fn outside_quotes(s: &[u8], at: usize) -> usize
     requires { ⌜ at ≤ length (now s) ⌝ }
+    requires { ⌜ length (now s) ≤ lineLimit ⌝ }
     ensures { λ r. ⌜ (r ≡ at + outside (byteBefore (now (s .entry)) at) (drop at (now (s .entry)))) × (r ≤ length (now (s .entry))) ⌝ }
 {
     let mut i = at;
@@ -43,6 +46,7 @@ fn outside_quotes(s: &[u8], at: usize) -> usize
 // The same from a place inside quotes on.
 fn inside_quotes(s: &[u8], at: usize) -> usize
     requires { ⌜ at ≤ length (now s) ⌝ }
+    requires { ⌜ length (now s) ≤ lineLimit ⌝ }
     ensures { λ r. ⌜ (r ≡ at + inside (byteBefore (now (s .entry)) at) (drop at (now (s .entry)))) × (r ≤ length (now (s .entry))) ⌝ }
 {
     let mut i = at;
@@ -56,8 +60,9 @@ fn inside_quotes(s: &[u8], at: usize) -> usize
     i
 }
 
-// How many bytes stand before the comment. Each quote takes stack, so a line's length is tested first.
+// How many bytes stand before the comment.
 pub(crate) fn comment_start(s: &[u8]) -> usize
+    requires { ⌜ length (now s) ≤ lineLimit ⌝ }
     ensures { λ r. ⌜ (r ≡ outside 0 (now (s .entry))) × (r ≤ length (now (s .entry))) ⌝ }
 {
     outside_quotes(s, 0)

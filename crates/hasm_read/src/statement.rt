@@ -1,6 +1,8 @@
 // What a line is, by places of the line.
-ghost use Prim.Native.Nat.{ℕ};
+ghost use Prim.Native.Nat.{ℕ, _≤_};
 ghost use mathlib.Core.List.{List};
+ghost use lib.ListN.{length};
+ghost use Rattle.limits.specs.Limits.{lineLimit};
 ghost use Rattle.spec_hasm.specs.Line.{statementOf};
 ghost use Rattle.sheet.specs.Keys.{NamesIndexed};
 ghost use Rattle.hasm_read.specs.Statements.{StatementIn};
@@ -21,6 +23,7 @@ pub fn read_statement(
     names: &[u32],
 ) -> Statement
     requires { ⌜ NamesIndexed (now sheet) (now ops) (now names) ⌝ }
+    requires { ⌜ length (now line) ≤ lineLimit ⌝ }
     ensures { λ r. ⌜ ((types : List (List ℕ)) (bytes ends : List ℕ) → StatementIn (statementOf (record { sheet = now (sheet .entry); types = types; infos = now (ops .entry); bytes = bytes; ends = ends }) (now (line .entry))) (now (line .entry)) r) ⌝ }
 {
     let c = crate::comment::comment_start(line);

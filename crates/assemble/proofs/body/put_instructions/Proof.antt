@@ -21,7 +21,7 @@ loop-holds : tie.Need-loop-holds Inv-loop μ-loop
 loop-holds c =
     let a = c .before .before .before .before .before .before .before .before .args in
     let e = contextFrom (a .sheet .now) (a .types .now) (a .ops .now) (a .bytes .now) (a .ends .now) in
-    (text-start e (labelsOf e (a .text .now)) (a .text .now) (a .out .now) (omega arith) (c .before .before .before .before .before .before .before .before .pre .1 .1), refl, refl)
+    (text-start e (labelsOf e (a .text .now)) (a .text .now) (a .out .now) (omega arith) (c .before .before .before .before .before .before .before .before .pre .1 .0 .2), refl, refl)
 
 line-end-requires : tie.Need-line-end-requires Inv-loop μ-loop
 line-end-requires c κs = search needs
@@ -32,7 +32,7 @@ put-line-requires c κs =
     let p = c .before .before .before .before .before .before .before .before .before .before .before .before .before .pre in
     let l = c .before .before .before .before .loop in
     let e = contextFrom (a .sheet .now) (a .types .now) (a .ops .now) (a .bytes .now) (a .ends .now) in
-    ((p .0 .0, omega (arith, l .inv .2, p .0 .1)), (text-line e (labelsOf e (a .text .now)) (a .text .now) (l .inv .0) (c .before .before .line-end .result) (c .before .before .before .loop-test .taken) (c .before .before .line-end .ensures .0) (p .1 .0 .0 .1), p .1 .0))
+    ((p .0 .0, omega (arith, l .inv .2, p .0 .1)), (text-line e (labelsOf e (a .text .now)) (a .text .now) (l .inv .0) (c .before .before .line-end .result) (c .before .before .before .loop-test .taken) (c .before .before .line-end .ensures .0) (p .1 .0 .1), p .1))
 
 enum-known-step : tie.Need-enum-known-step Inv-loop μ-loop
 enum-known-step c = search needs
@@ -50,10 +50,10 @@ returns : tie.Need-returns Inv-loop μ-loop
 returns c = rw (c .before .step2 .given .1) at (c .before .before .before .before .before .before .before .put-line .ensures _ _ (c .before .before .before .before .before .before .before .before .before .before .before .before .loop .inv .0 .going))
 
 add-at : tie.Need-add-at Inv-loop μ-loop
-add-at c = record { fits = omega (arith, c .before .before .before .before .before .before .before .before .before .before .line-end .ensures .1, c .before .before .before .before .before .before .before .before .before .before .before .before .before .before .before .before .before .before .before .before .before .pre .1 .0 .0 .1) }
+add-at c = record { fits = omega (arith, c .before .before .before .before .before .before .before .before .before .before .line-end .ensures .1, c .before .before .before .before .before .before .before .before .before .before .before .before .before .before .before .before .before .before .before .before .before .pre .1 .0 .1) }
 
 add-n : tie.Need-add-n Inv-loop μ-loop
-add-n c = record { fits = omega (arith, c .before .before .before .before .before .before .before .before .before .before .before .before .loop .inv .0 .few, c .before .before .before .before .before .before .before .before .before .before .before .loop-test .taken, c .before .before .before .before .before .before .before .before .before .before .before .before .before .before .before .before .before .before .before .before .before .pre .1 .0 .0 .1) }
+add-n c = record { fits = omega (arith, c .before .before .before .before .before .before .before .before .before .before .before .before .loop .inv .0 .few, c .before .before .before .before .before .before .before .before .before .before .before .loop-test .taken, c .before .before .before .before .before .before .before .before .before .before .before .before .before .before .before .before .before .before .before .before .before .pre .1 .0 .1) }
 
 loop-less : tie.Need-loop-less Inv-loop μ-loop
 loop-less c = search needs
@@ -63,7 +63,7 @@ loop-again c =
     let a = c .before .before .before .before .before .before .before .before .before .before .before .before .before .before .before .before .before .before .before .before .before .args in
     let l = c .before .before .before .before .before .before .before .before .before .before .before .before .loop in
     let e = contextFrom (a .sheet .now) (a .types .now) (a .ops .now) (a .bytes .now) (a .ends .now) in
-    (text-turn e (labelsOf e (a .text .now)) (a .text .now) (l .inv .0) (c .before .before .before .before .before .before .before .before .before .before .line-end .result) (c .before .before .before .before .before .before .before .before .before .before .before .loop-test .taken) (c .before .before .before .before .before .before .before .before .before .before .line-end .ensures .0) (c .before .before .before .before .before .before .before .before .before .before .before .before .before .before .before .before .before .before .before .before .before .pre .1 .0 .0 .1) _ (rw (c .before .step .given .1) at (c .before .before .before .before .before .before .before .put-line .ensures _ _ (l .inv .0 .going))), search needs, search needs)
+    (text-turn e (labelsOf e (a .text .now)) (a .text .now) (l .inv .0) (c .before .before .before .before .before .before .before .before .before .before .line-end .result) (c .before .before .before .before .before .before .before .before .before .before .before .loop-test .taken) (c .before .before .before .before .before .before .before .before .before .before .line-end .ensures .0) (c .before .before .before .before .before .before .before .before .before .before .before .before .before .before .before .before .before .before .before .before .before .pre .1 .0 .1) _ (rw (c .before .step .given .1) at (c .before .before .before .before .before .before .before .put-line .ensures _ _ (l .inv .0 .going))), search needs, search needs)
 
 same-length-3 : tie.Need-same-length-3 Inv-loop μ-loop
 same-length-3 c = search needs

@@ -1,8 +1,11 @@
-use Rattle.assemble.proofs.InstructionLaws.{opcode-below, put-whole, put-refused, tail-short}
+use Rattle.assemble.proofs.InstructionLaws.{opcode-below, put-whole, put-refused}
+use Rattle.limits.specs.Limits.{lineLimit}
+use Rattle.hasm_read.proofs.PartLaws.{part-short}
 use Rattle.assemble.specs.Contexts.{labelsOf}
 use Rattle.spec_inputs.specs.Context.{contextFrom}
 use Rattle.spec_sheet.specs.Sheet.{findName}
-use lib.ListN.{take}
+use lib.ListN.{length, take}
+use mathlib.Core.Path.{refl}
 use native.Mathlib.Omega.{arith}
 use Prim.Native.Nat.{_-_}
 use borrow.Author.Needs.{needs}
@@ -68,8 +71,9 @@ part-put-operands-end c = omega arith
 
 put-operands-requires : tie.Need-put-operands-requires
 put-operands-requires c κs =
+    let s = c .before .before .before .before .before .before .before .before .before .before .before .before .before .before .before .before .before .before .before .before .before .before .before .args .s .now in
     let p = c .before .before .before .before .before .before .before .before .before .before .before .before .before .before .before .before .before .before .before .before .before .before .before .pre in
-    ((p .0 .0, tail-short (c .before .before .before .before .before .before .before .before .before .before .before .before .before .before .before .before .before .before .before .before .before .before .before .args .s .now) (c .before .before .before .before .before .before .before .skip2 .result) 4096 (p .0 .1), p .0 .2), (omega (arith, p .1 .0), p .1 .1))
+    ((p .0 .0, part-short s s (c .before .before .before .before .before .before .before .skip2 .result) (length s) lineLimit refl (p .0 .1), p .0 .2), (omega (arith, p .1 .0), p .1 .1))
 
 enum-known-o : tie.Need-enum-known-o
 enum-known-o c = omega arith

@@ -1,4 +1,6 @@
-use Rattle.assemble.proofs.LineTurns.{part-short, turn-nothing, turn-label, turn-code}
+use Rattle.limits.specs.Limits.{lineLimit}
+use Rattle.hasm_read.proofs.PartLaws.{part-short}
+use Rattle.assemble.proofs.LineTurns.{turn-nothing, turn-label, turn-code}
 use Rattle.hasm_labels.proofs.LineTurns.{was-code}
 use Rattle.assemble.specs.Contexts.{labelsOf}
 use Rattle.spec_inputs.specs.Context.{contextFrom}
@@ -12,7 +14,7 @@ line-of-requires : tie.Need-line-of-requires
 line-of-requires c κs = omega arith
 
 read-statement-requires : tie.Need-read-statement-requires
-read-statement-requires c κs = search needs
+read-statement-requires c κs = let p = c .before .before .before .before .before .before .before .before .before .pre .1 in (p .1 .0 .0, rw (c .line-of .ensures) (p .0 .short))
 
 enum-told : tie.Need-enum-told
 enum-told c = omega arith
@@ -33,7 +35,7 @@ part-put-instruction-end : tie.Need-part-put-instruction-end
 part-put-instruction-end c = let z = was-code _ _ _ _ (rw (c .before .statement .given .1) at (c .before .before .before .read-statement .ensures [] [] [])) in omega (arith, z .2)
 
 put-instruction-requires : tie.Need-put-instruction-requires
-put-instruction-requires c κs = ((c .before .before .before .before .before .before .before .before .before .before .before .before .before .before .before .before .pre .0 .0, part-short _ _ (c .before .before .before .before .statement .given .0 .0) (c .before .before .before .before .statement .given .0 .1 .0) 4096 (c .before .before .before .before .before .before .before .line-of .ensures) (c .before .before .before .before .before .before .before .before .before .before .before .before .before .before .before .before .pre .1 .0 .short), c .before .before .before .before .before .before .before .before .before .before .before .before .before .before .before .before .pre .0 .1), (c .before .before .before .before .before .before .before .before .before .before .before .before .before .before .before .before .pre .1 .0 .small, c .before .before .before .before .before .before .before .before .before .before .before .before .before .before .before .before .pre .1 .1))
+put-instruction-requires c κs = ((c .before .before .before .before .before .before .before .before .before .before .before .before .before .before .before .before .pre .0 .0, part-short _ _ (c .before .before .before .before .statement .given .0 .0) (c .before .before .before .before .statement .given .0 .1 .0) lineLimit (c .before .before .before .before .before .before .before .line-of .ensures) (c .before .before .before .before .before .before .before .before .before .before .before .before .before .before .before .before .pre .1 .0 .short), c .before .before .before .before .before .before .before .before .before .before .before .before .before .before .before .before .pre .0 .1), (c .before .before .before .before .before .before .before .before .before .before .before .before .before .before .before .before .pre .1 .0 .small, c .before .before .before .before .before .before .before .before .before .before .before .before .before .before .before .before .pre .1 .1))
 
 returns : tie.Need-returns
 returns c =

@@ -1,6 +1,7 @@
 use Rattle.spec_inputs.specs.Context.{contextFrom}
 use Rattle.assemble.specs.Answers.{assembleReport}
 use Rattle.assemble.specs.Passes.IdsLeft.{filled, kept}
+use Rattle.hasm_read.proofs.CheckLaws.{good-short}
 use Rattle.assemble.proofs.PassLaws.{were-good, name-refused, refused-text}
 use mathlib.Core.Path.{refl, sym}
 use borrow.Author.Needs.{needs}
@@ -23,7 +24,9 @@ slice-aggregate-read-names-2 : tie.Need-slice-aggregate-read-names-2
 slice-aggregate-read-names-2 c = search needs
 
 read-names-requires : tie.Need-read-names-requires
-read-names-requires c κs = search needs
+read-names-requires c κs =
+    let p = c .before .before .before .before .before .before .before .before .before .before .before .before .before .pre in
+    (c .before .before .before .before .index-names .ensures, (p .0 .1, good-short (c .before .before .before .before .before .before .before .before .before .before .before .before .before .args .text .now) (p .1)))
 
 enum-known-n : tie.Need-enum-known-n
 enum-known-n c = search needs

@@ -1,6 +1,7 @@
 use borrow.Author.Tests.{leb-true}
 use Rattle.spec_inputs.specs.Context.{contextFrom}
 use Rattle.assemble.specs.Answers.{assembleReport}
+use Rattle.hasm_read.proofs.CheckLaws.{good-short}
 use Rattle.assemble.proofs.PassLaws.{good-text, labels-known, body-end, refused-text}
 use mathlib.Core.Path.{_∙_}
 use borrow.Author.Needs.{needs}
@@ -17,7 +18,7 @@ slice-aggregate-put-instructions : tie.Need-slice-aggregate-put-instructions
 slice-aggregate-put-instructions c = search needs
 
 put-instructions-requires : tie.Need-put-instructions-requires
-put-instructions-requires c κs = let st = c .before .before .before .before .before .before .before .before .before .before .before .before .before .before .before in let p = st .pre in ((c .before .before .before .before .before .before .index-texts .ensures, search needs), (labels-known (st .args .names .now) _ (p .0 .2) (p .0 .1) (p .1 .0) (λ t. leb-true _ _ t) (c .before .before .before .held-labels .ensures), p .1 .1))
+put-instructions-requires c κs = let st = c .before .before .before .before .before .before .before .before .before .before .before .before .before .before .before in let p = st .pre in ((c .before .before .before .before .before .before .index-texts .ensures, search needs), labels-known (st .args .names .now) _ (p .0 .2) (p .0 .1) (good-short (st .args .text .now) (p .1 .1)) (p .1 .0) (λ t. leb-true _ _ t) (c .before .before .before .held-labels .ensures))
 
 enum-known-b : tie.Need-enum-known-b
 enum-known-b c = search needs

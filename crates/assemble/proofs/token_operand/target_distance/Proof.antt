@@ -20,7 +20,7 @@ enum-told : tie.Need-enum-told
 enum-told c = search needs
 
 label-offset-requires : tie.Need-label-offset-requires
-label-offset-requires c κs = let k = c .before .before .before .before .before .before .before .pre .1 in (k .0 .0, (k .0 .1, k .1))
+label-offset-requires c κs = let k = c .before .before .before .before .before .before .before .pre .1 in (k .0 .0, ((k .0 .1, k .0 .2), k .1))
 
 label-distance-requires : tie.Need-label-distance-requires
 label-distance-requires c κs = search needs

@@ -1,5 +1,8 @@
 use native.Mathlib.Omega.{arith}
-use mathlib.Core.Path.{sym, _∙_}
+use mathlib.Core.Path.{refl, sym, _∙_}
+use lib.ListN.{length}
+use Rattle.limits.specs.Limits.{lineLimit}
+use Rattle.hasm_read.proofs.PartLaws.{part-short}
 use Rattle.hasm_labels.proofs.NameLaws.{row-below, name-unknown, name-miscounted, name-sized}
 use borrow.Author.Needs.{needs}
 use Rattle.hasm_labels.proofs.instruction_name.read_name.Statement.{statement}
@@ -50,7 +53,9 @@ part-count-operands-end : tie.Need-part-count-operands-end
 part-count-operands-end c = search needs
 
 count-operands-requires : tie.Need-count-operands-requires
-count-operands-requires c κs = search needs
+count-operands-requires c κs =
+    let s = c .before .before .before .before .before .before .before .before .before .before .before .before .before .args .s .now in
+    part-short s s (c .before .skip2 .result) (length s) lineLimit refl (c .before .before .before .before .before .before .before .before .before .before .before .before .before .pre .1)
 
 operand-count-requires : tie.Need-operand-count-requires
 operand-count-requires c κs = search needs

@@ -1,8 +1,10 @@
 use native.Mathlib.Omega.{arith}
-use lib.ListN.{length}
+use lib.ListN.{length, drop}
 use Prim.Native.Nat.{ℕ, _-_}
 use mathlib.Core.List.{List, []}
 use mathlib.Core.Path.{_≡_, refl}
+use Rattle.hasm_read.specs.Lines.{ShortLines}
+use Rattle.hasm_read.proofs.LineLaws.{short-behind}
 use Rattle.hasm_labels.specs.Going.{Going}
 use Rattle.hasm_labels.proofs.NamesLaws.{going-start, going-line, going-end}
 use borrow.Author.Needs.{needs}
@@ -10,13 +12,13 @@ use Rattle.hasm_labels.proofs.names_pass.read_names.Statement.{statemen
 use Rattle.hasm_labels.proofs.names_pass.read_names.Tie as tie
 
 abbrev Inv-loop : tie.InvT-loop
-Inv-loop text sheet types ops names labels₀ t p₀ at₀ n₀ labels p at n = ((bytes ends : List ℕ) → Going (record { sheet = sheet; types = types; infos = ops; bytes = bytes; ends = ends }) text t labels₀ at n p labels) × (length labels ≡ length labels₀)
+Inv-loop text sheet types ops names labels₀ t p₀ at₀ n₀ labels p at n = ((bytes ends : List ℕ) → Going (record { sheet = sheet; types = types; infos = ops; bytes = bytes; ends = ends }) text t labels₀ at n p labels) × (length labels ≡ length labels₀) × ShortLines (drop at text)
 
 abbrev μ-loop : tie.MeasureT-loop
 μ-loop text sheet types ops names labels₀ t p₀ at₀ n₀ labels p at n = length text - at
 
 loop-holds : tie.Need-loop-holds Inv-loop μ-loop
-loop-holds c = let a = c .before .before .before .before .args in ((λ bytes ends. going-start _ (a .text .now) (a .t .now) (a .labels .now)), refl)
+loop-holds c = let a = c .before .before .before .before .args in ((λ bytes ends. going-start _ (a .text .now) (a .t .now) (a .labels .now)), refl, c .before .before .before .before .pre .1 .1)
 
 line-end-requires : tie.Need-line-end-requires Inv-loop μ-loop
 line-end-requires c κs = search needs
@@ -24,7 +26,7 @@ line-end-requires c κs = search needs
 take-line-requires : tie.Need-take-line-requires Inv-loop μ-loop
 take-line-requires c κs =
     let q = c .before .before .before .before .before .before .before .before .pre in
-    (q .0, going-line (c .before .line-end .result) (c .before .before .before .loop .inv .0 [] []) (c .before .before .loop-test .taken) (c .before .line-end .ensures) (q .1))
+    (q .0, going-line (c .before .line-end .result) (c .before .before .before .loop .inv .0 [] []) (c .before .before .loop-test .taken) (c .before .line-end .ensures) (q .1 .0) (c .before .before .before .loop .inv .2))
 
 enum-known-step : tie.Need-enum-known-step Inv-loop μ-loop
 enum-known-step c = search needs
@@ -48,7 +50,7 @@ add-at : tie.Need-add-at Inv-loop μ-loop
 add-at c = search needs
 
 add-n : tie.Need-add-n Inv-loop μ-loop
-add-n c = omega (arith, c .before .before .before .before .before .before .before .before .loop .inv .0 [] [] .few, c .before .before .before .before .before .before .before .loop-test .taken, c .before .before .before .before .before .before .before .before .before .before .before .before .before .pre .1)
+add-n c = omega (arith, c .before .before .before .before .before .before .before .before .loop .inv .0 [] [] .few, c .before .before .before .before .before .before .before .loop-test .taken, c .before .before .before .before .before .before .before .before .before .before .before .before .before .pre .1 .0)
 
 loop-less : tie.Need-loop-less Inv-loop μ-loop
 loop-less c = search needs
@@ -56,7 +58,7 @@ loop-less c = search needs
 loop-again : tie.Need-loop-again Inv-loop μ-loop
 loop-again c =
     let l = c .before .before .before .before .before .before .before .before .loop in
-    ((λ bytes ends. rw (c .before .step .given .1) at (c .before .before .before .before .take-line .ensures bytes ends (c .before .before .before .before .before .before .before .before .before .before .before .before .before .args .labels .now) (l .inv .0 bytes ends))), search needs)
+    ((λ bytes ends. rw (c .before .step .given .1) at (c .before .before .before .before .take-line .ensures bytes ends (c .before .before .before .before .before .before .before .before .before .before .before .before .before .args .labels .now) (l .inv .0 bytes ends))), search needs, short-behind _ (l .at) _ (c .before .before .before .before .before .before .before .loop-test .taken) (c .before .before .before .before .before .before .line-end .ensures .0) (l .inv .2))
 
 same-length-2 : tie.Need-same-length-2 Inv-loop μ-loop
 same-length-2 c = search needs
@@ -65,7 +67,7 @@ returns-2 : tie.Need-returns-2 Inv-loop μ-loop
 returns-2 c =
     let a = c .before .before .before .before .before .before .args in
     let l = c .before .loop in
-    λ bytes ends. going-end _ (a .text .now) (a .t .now) (a .labels .now) (l .at) (l .n) (l .p) (l .labels) (l .inv .0 bytes ends) (c .loop-test .left) (c .before .before .before .before .before .before .pre .1)
+    λ bytes ends. going-end _ (a .text .now) (a .t .now) (a .labels .now) (l .at) (l .n) (l .p) (l .labels) (l .inv .0 bytes ends) (c .loop-test .left) (c .before .before .before .before .before .before .pre .1 .0)
 
 pub read-names-spec : {M : Type 1} → statement M
 read-names-spec =

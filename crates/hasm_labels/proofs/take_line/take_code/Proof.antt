@@ -17,7 +17,7 @@ hold-label-requires c κs = search needs
 add-t18 : tie.Need-add-t18
 add-t18 c =
     let z = rw (c .before .before .before .before .before .named .given .1) at (c .before .before .before .before .before .before .before .read-name .ensures [] []) in
-    omega (arith, c .before .before .hold-label .ensures .offset, c .before .before .before .before .before .before .before .before .before .before .before .before .before .pre .1 .offset, z .short)
+    omega (arith, c .before .before .hold-label .ensures .offset, c .before .before .before .before .before .before .before .before .before .before .before .before .before .pre .1 .1 .offset, z .short)
 
 enum-known-named-2 : tie.Need-enum-known-named-2
 enum-known-named-2 c = search needs

@@ -1,5 +1,7 @@
 use mathlib.Core.List.{[]}
 use native.Mathlib.Omega.{arith}
+use Rattle.limits.specs.Limits.{lineLimit}
+use Rattle.hasm_read.proofs.PartLaws.{part-short}
 use Rattle.hasm_labels.proofs.LineTurns.{line-nothing, line-label, line-code, label-near, was-code}
 use borrow.Author.Needs.{needs}
 use Rattle.hasm_labels.proofs.take_line.take_line.Statement.{statement}
@@ -9,7 +11,7 @@ line-of-requires : tie.Need-line-of-requires
 line-of-requires c κs = search needs
 
 read-statement-requires : tie.Need-read-statement-requires
-read-statement-requires c κs = search needs
+read-statement-requires c κs = let q = c .before .before .before .before .before .pre in (q .0, rw (c .line-of .ensures) (q .1 .short))
 
 enum-told : tie.Need-enum-told
 enum-told c = search needs
@@ -18,7 +20,7 @@ enum-known-statement : tie.Need-enum-known-statement
 enum-known-statement c = search needs
 
 add-t19 : tie.Need-add-t19
-add-t19 c = let z = label-near (c .before .before .before .before .before .before .before .before .before .args .text .now) (c .before .before .before .before .before .before .before .before .before .args .at) (c .before .before .before .before .before .before .before .before .before .args .end) _ _ _ _ (c .before .before .before .before .line-of .ensures) (rw (c .before .statement .given .1) at (c .before .before .before .read-statement .ensures [] [] [])) in omega (arith, z, c .before .before .before .before .before .before .before .before .before .pre .1 .near, c .before .before .before .before .before .before .before .before .before .pre .1 .short, c .before .before .before .before .before .before .before .before .before .pre .1 .inside)
+add-t19 c = let z = label-near (c .before .before .before .before .before .before .before .before .before .args .text .now) (c .before .before .before .before .before .before .before .before .before .args .at) (c .before .before .before .before .before .before .before .before .before .args .end) _ _ _ _ (c .before .before .before .before .line-of .ensures) (rw (c .before .statement .given .1) at (c .before .before .before .read-statement .ensures [] [] [])) in omega (arith, z, c .before .before .before .before .before .before .before .before .before .pre .1 .near, c .before .before .before .before .before .before .before .before .before .pre .1 .limited, c .before .before .before .before .before .before .before .before .before .pre .1 .inside)
 
 enum-known-statement-2 : tie.Need-enum-known-statement-2
 enum-known-statement-2 c = search needs
@@ -33,7 +35,9 @@ part-take-code-end : tie.Need-part-take-code-end
 part-take-code-end c = let z = was-code _ _ _ _ (rw (c .before .statement2 .given .1) at (c .before .before .before .read-statement .ensures [] [] [])) in omega (arith, z .2)
 
 take-code-requires : tie.Need-take-code-requires
-take-code-requires c κs = search needs
+take-code-requires c κs =
+    let q = c .before .before .before .before .before .before .before .before .before .before .before .pre in
+    (q .0, (part-short _ _ (c .before .before .before .statement2 .given .0 .0) (c .before .before .before .statement2 .given .0 .1 .0) lineLimit (c .before .before .before .before .before .before .line-of .ensures) (q .1 .short), q .1 .small))
 
 returns : tie.Need-returns
 returns c =
@@ -45,7 +49,7 @@ returns-2 : tie.Need-returns-2
 returns-2 c =
     let a = c .before .before .before .before .before .before .before .before .before .args in
     let q = c .before .before .before .before .before .before .before .before .before .pre .1 in
-    λ bytes ends slots g. line-label _ (a .text .now) (a .t .now) slots (a .at) (a .n) (a .end) (a .p) (a .labels .now) g (q .inside) (q .ends) (q .near) _ (c .before .before .before .before .line-of .ensures) (q .short) _ _ (rw (c .before .statement .given .1) at (c .before .before .before .read-statement .ensures (a .types .now) bytes ends))
+    λ bytes ends slots g. line-label _ (a .text .now) (a .t .now) slots (a .at) (a .n) (a .end) (a .p) (a .labels .now) g (q .inside) (q .ends) (q .near) _ (c .before .before .before .before .line-of .ensures) (q .limited) _ _ (rw (c .before .statement .given .1) at (c .before .before .before .read-statement .ensures (a .types .now) bytes ends))
 
 same-length : tie.Need-same-length
 same-length c = search needs

@@ -8,10 +8,10 @@ use lib.Seq.{paste, paste-zero, length-paste}
 use Rattle.lists.specs.Scan.{part}
 use Rattle.spec_numbers.specs.LittleEndian.{le}
 use Rattle.spec_sheet.specs.Types.{widthOf, kindOf}
-use Rattle.spec_sheet.specs.Row.{sumBy, totalWidth}
+use Rattle.spec_sheet.specs.Row.{sumBy, totalWidth, lengthOf}
 use Rattle.spec_body.specs.Record.{pairs}
 use Rattle.spec_body.proofs.DecodeLaws.{length-pairs}
-use Rattle.sheet.proofs.RowLaws.{sum-more}
+use Rattle.sheet.proofs.RowLaws.{sum-more, sum-front}
 use Rattle.decode.proofs.PairLaws.{pairs-kind, pairs-bits, two-more}
 
 -- i operands are written, and the next one is at p
@@ -32,6 +32,10 @@ module _ (row s d : List ℕ) (k at : ℕ) where
 
     pub kept-length : length out ≡ length d
     kept-length = rw (g .words) (length-paste d k (pairs row s (at + 1)) (2 * i) (omega (arith, g .inside)) (omega (arith, g .inside, sixteen)))
+
+    -- the bytes of operand i are there
+    pub operand-inside : at + lengthOf row ≤ length s → i < 8 → p + widthOf (getD row i 0) ≤ length s
+    operand-inside h l = omega (arith, g .place, sum-more widthOf row i (omega arith), sum-front widthOf row (i + 1))
 
     pub turn : (kind bits width : ℕ) → i < 8 → kind ≡ kindOf (getD row i 0) → bits ≡ le (part s p (widthOf (getD row i 0))) → width ≡ widthOf (getD row i 0)
         → Going row s d (set (set out (k + 2 * i) kind) (k + 2 * i + 1) bits) k at (p + width) (i + 1)

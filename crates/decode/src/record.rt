@@ -3,15 +3,11 @@ ghost use mathlib.Core.Path.{_≡_};
 ghost use Prim.Native.Nat.{_+_, _≤_};
 ghost use lib.ListN.{length, set};
 ghost use lib.Seq.{paste};
-ghost use Rattle.spec_sheet.specs.Types.{widthOf};
 ghost use Rattle.spec_sheet.specs.Row.{lengthOf};
 ghost use Rattle.spec_body.specs.Record.{pairs, recordOf};
-ghost use Rattle.operand.specs.Value.{operandAt, kindIn, bitsIn};
 ghost use Rattle.decode.specs.Tables.{CodeRows, headRow};
 use crate::tables::kind_at;
 use crate::tables::width_at;
-use operand::value::bits_of;
-use operand::value::kind_of;
 use slices::widen::wide_byte;
 
 // Writes two words.
@@ -23,32 +19,51 @@ fn put_pair(out: &mut [u64], k: usize, first: u64, second: u64)
     out[k + 1] = second;
 }
 
-// Writes kind and bits of the operand of a type at p, in the instruction at `at`: those of its value. Where eight bytes end
-// with the operand's, both come from tables, as a branch by kind would cost more than the rest. That is asked of the
-// instruction's place, which is the same for all its operands, so the compiler takes the test out of their loop.
-fn put_operand(
+// Writes the eight pairs of kind and bits of the instruction at `at` from word k on: those of the operands' values.
+fn put_values(out: &mut [u64], k: usize, row: [u8; 8], s: &[u8], at: usize)
+    requires { ⌜ (k + 16 ≤ length (now out)) × (at + lengthOf row ≤ length (now s)) ⌝ }
+    ensures { λ _. ⌜ now (out .exit) ≡ paste (now (out .entry)) k (pairs row (now (s .entry)) (at + 1)) 16 ⌝ }
+{
+    let mut p = at + 1;
+    let mut i: usize = 0;
+    while i < 8 {
+        let c = row[i];
+        let o = operand::read::read_operand(c, s, p);
+        let value = o.value;
+        let kind = operand::value::kind_of(value);
+        let bits = operand::value::bits_of(value, o.bits);
+        put_pair(out, k + 2 * i, wide_byte(kind), bits);
+        p += sheet::operand_types::width(c);
+        i += 1;
+    }
+}
+
+// The same by tables, with no branch by kind, where eight bytes end with each operand's. Most of a body goes this way, since such
+// a branch would cost more than the rest.
+fn put_by_tables(
     out: &mut [u64],
     k: usize,
-    code: u8,
+    row: [u8; 8],
     codes: &[[u8; 2]; 256],
     s: &[u8],
     at: usize,
-    p: usize,
 )
-    requires { ⌜ (k + 2 ≤ length (now out)) × CodeRows (now codes) × (at ≤ p) × (p + widthOf code ≤ length (now s)) ⌝ }
-    ensures { λ _. ⌜ now (out .exit) ≡ set (set (now (out .entry)) k (kindIn (operandAt code (now (s .entry)) p))) (k + 1) (bitsIn (operandAt code (now (s .entry)) p)) ⌝ }
+    requires { ⌜ (8 ≤ at) × (k + 16 ≤ length (now out)) × CodeRows (now codes) × (at + lengthOf row ≤ length (now s)) ⌝ }
+    ensures { λ _. ⌜ now (out .exit) ≡ paste (now (out .entry)) k (pairs row (now (s .entry)) (at + 1)) 16 ⌝ }
 {
-    if 8 <= at {
-        let bits = numbers::io::read_of_eight(s, p, width_at(codes, code));
-        put_pair(out, k, wide_byte(kind_at(codes, code)), bits);
-        return;
+    let mut p = at + 1;
+    let mut i: usize = 0;
+    while i < 8 {
+        let c = row[i];
+        let width = width_at(codes, c);
+        let bits = numbers::io::read_of_eight(s, p, width);
+        put_pair(out, k + 2 * i, wide_byte(kind_at(codes, c)), bits);
+        p += width;
+        i += 1;
     }
-    let o = operand::read::read_operand(code, s, p);
-    let value = o.value;
-    put_pair(out, k, wide_byte(kind_of(value)), bits_of(value, o.bits));
 }
 
-// Writes the eight pairs of kind and bits of the instruction at `at` from word k on.
+// The one or the other.
 fn put_operands(
     out: &mut [u64],
     k: usize,
@@ -60,13 +75,10 @@ fn put_operands(
     requires { ⌜ (k + 16 ≤ length (now out)) × CodeRows (now codes) × (at + lengthOf row ≤ length (now s)) ⌝ }
     ensures { λ _. ⌜ now (out .exit) ≡ paste (now (out .entry)) k (pairs row (now (s .entry)) (at + 1)) 16 ⌝ }
 {
-    let mut p = at + 1;
-    let mut i: usize = 0;
-    while i < 8 {
-        let c = row[i];
-        put_operand(out, k + 2 * i, c, codes, s, at, p);
-        p += width_at(codes, c);
-        i += 1;
+    if 8 <= at {
+        put_by_tables(out, k, row, codes, s, at);
+    } else {
+        put_values(out, k, row, s, at);
     }
 }
 

@@ -37,12 +37,12 @@ module _ (sheet bytes ends text : List ℕ) where
     pub large-text : 1048576 < length text → after ≡ zeros before → Ended (assemble sheet bytes ends text) before room after (refusalReport TooLarge)
     large-text h z = refused-end _ TooLarge before room after _ (large h) refl z
 
-    module _ {types ops : List (List ℕ)} (h : length text ≤ 1048576) where
+    module _ {types₀ ops₀ types ops : List (List ℕ)} (h : length text ≤ 1048576) where
       -- one under inputs that were read
-      pub read-text : {last : ℕ} {r : Report} → Given sheet bytes ends types ops (Ready last) → Ended (textOutcome (contextFrom sheet types ops bytes ends) text) before room after r
+      pub read-text : {last : ℕ} {r : Report} → Given sheet bytes ends types₀ ops₀ types ops (Ready last) → Ended (textOutcome (contextFrom sheet types ops bytes ends) text) before room after r
           → Ended (assemble sheet bytes ends text) before room after r
       read-text g e = rw (small h) (read-on (textUnder text) g e)
 
       -- and under inputs that are refused
-      pub refused-inputs : {x : Refusal} → Given sheet bytes ends types ops (Refused x) → after ≡ zeros before → Ended (assemble sheet bytes ends text) before room after (refusalReport x)
+      pub refused-inputs : {x : Refusal} → Given sheet bytes ends types₀ ops₀ types ops (Refused x) → after ≡ zeros before → Ended (assemble sheet bytes ends text) before room after (refusalReport x)
       refused-inputs g z = rw (small h) (refused-on (textUnder text) g refl z)

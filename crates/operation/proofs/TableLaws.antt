@@ -9,10 +9,12 @@ use Rattle.lists.specs.Found.Found.{found, missing}
 use Rattle.answers.specs.declared.refusal.Refusal.{Refusal}
 use Rattle.answers.specs.declared.refusal.Refusal.the-variants.{BadString, TooLarge}
 use Rattle.spec_strings.specs.Table.{tooLarge, fault}
+use Rattle.answers.specs.Refusals.{refusalReport}
 use Rattle.answers.specs.Outcome.{Outcome}
 use Rattle.answers.specs.Outcome.Outcome.{refusedWith}
 use Rattle.spec_inputs.specs.Inputs.{unlessFault, underTable}
 use Rattle.operation.specs.declared.inputs.Inputs.the-variants.{Ready, Refused}
+use Rattle.operation.specs.Read.{rowsLeft}
 use Rattle.operation.specs.Tables.{unlessFaulty, tableInputs}
 
 -- inputs that are ready, whatever follows them
@@ -58,4 +60,17 @@ module _ (last : ℕ) (bytes ends : List ℕ) where
 
       first : (t : Bool) → tooLarge bytes ends ≡ t → underTable bytes ends rest ≡ refusedWith x
       first true h = let w : TooLarge ≡ x = cc (too-large h ∙ e) in rw h (ap refusedWith w)
+      first false h = second h (fault bytes ends) refl
+
+  -- its refusals leave rows as they were
+  pub rows-kept : (x : Refusal) → tableInputs last bytes ends ≡ Refused x → (rows none : List (List ℕ)) → rows ≡ rowsLeft x rows none
+  unfolding rowsLeft refusalReport
+  rows-kept x e rows none = first (tooLarge bytes ends) refl
+    where
+      second : tooLarge bytes ends ≡ false → (f : Found) → fault bytes ends ≡ f → rows ≡ rowsLeft x rows none
+      second h (found id) q = let w : x ≡ BadString id = sym (cc (faulty h id q ∙ e)) in rw w refl
+      second h missing q = absurd (let w = all-good h q ∙ e in let z : _≡_ {A = ℕ} 0 1 = cc w in omega arith)
+
+      first : (t : Bool) → tooLarge bytes ends ≡ t → rows ≡ rowsLeft x rows none
+      first true h = let w : x ≡ TooLarge = sym (cc (too-large h ∙ e)) in rw w refl
       first false h = second h (fault bytes ends) refl

@@ -5,6 +5,7 @@ use Prim.Native.Nat.{ℕ}
 use native.Mathlib.Omega.{arith}
 use Rattle.spec_sheet.specs.Sheet.{SheetRead, sheetOf}
 use Rattle.spec_sheet.specs.Sheet.SheetRead.{sheet, malformed}
+use Rattle.answers.specs.Refusals.{refusalReport}
 use Rattle.answers.specs.Outcome.{Outcome}
 use Rattle.spec_inputs.specs.Inputs.{underTable, underSheet, underContext, underInputs}
 use Rattle.answers.specs.Outcome.Outcome.{refusedWith}
@@ -13,7 +14,7 @@ use Rattle.sheet.specs.declared.opcode.SheetRead.{SheetRead as Numbers}
 use Rattle.sheet.specs.declared.opcode.Sheet.the-variants as sheets
 use Rattle.sheet.proofs.SheetAnswers as answers
 use Rattle.sheet.proofs.SheetAnswers.{few-opcodes}
-use Rattle.operation.specs.Read.{Under, SheetGiven, Given}
+use Rattle.operation.specs.Read.{rowsLeft, Under, SheetGiven, Given}
 use Rattle.operation.specs.Read.Under.{ready, refused}
 use Rattle.operation.specs.declared.inputs.Inputs.{Inputs}
 use Rattle.answers.specs.declared.refusal.Refusal.{Refusal}
@@ -31,28 +32,32 @@ module _ (x : SheetRead) (then : List (List ℕ) → ℕ → Outcome) where
   under-none e = rw (answers.was-malformed x e)
 
 -- a sheet that was read
-pub was-read : (text : List ℕ) {r : Numbers} → sheetAnswer (sheetOf text) ≡ sheets.Read r → (types ops : List (List ℕ)) → types ≡ typesIn (sheetOf text) → ops ≡ infosIn (sheetOf text)
-    → SheetGiven text types ops (Ready (r .largest))
+pub was-read : (text : List ℕ) {r : Numbers} → sheetAnswer (sheetOf text) ≡ sheets.Read r → (types₀ ops₀ types ops : List (List ℕ)) → types ≡ typesIn (sheetOf text) → ops ≡ infosIn (sheetOf text)
+    → SheetGiven text types₀ ops₀ types ops (Ready (r .largest))
 unfolding underContext typesIn infosIn
-was-read text a types ops t o bytes ends =
+was-read text a types₀ ops₀ types ops t o bytes ends =
     let w = answers.was-read (sheetOf text) a in
     let e = w .is-sheet in
     ready (w .of .opcodes) (t ∙ ap typesIn e) (o ∙ ap infosIn e) (omega (arith, w .last, few-opcodes text a)) (λ then. ap (λ (x : SheetRead). underContext x text bytes ends then) e) (ap Ready (sym (w .last)))
 
-pub was-malformed : (text : List ℕ) {line : ℕ} (types ops : List (List ℕ)) → sheetAnswer (sheetOf text) ≡ sheets.Malformed line → SheetGiven text types ops (Refused (Malformed line))
-unfolding underContext
-was-malformed text {line} types ops a bytes ends = refused (Malformed line) (λ then. rw (answers.was-malformed (sheetOf text) a)) refl
+pub was-malformed : (text : List ℕ) {line : ℕ} → sheetAnswer (sheetOf text) ≡ sheets.Malformed line → (types₀ ops₀ types ops : List (List ℕ)) → types ≡ typesIn (sheetOf text) → ops ≡ infosIn (sheetOf text)
+    → SheetGiven text types₀ ops₀ types ops (Refused (Malformed line))
+unfolding underContext typesIn infosIn rowsLeft refusalReport
+was-malformed text {line} a types₀ ops₀ types ops t o bytes ends =
+    let e = answers.was-malformed (sheetOf text) a in
+    refused (Malformed line) (t ∙ ap typesIn e) (o ∙ ap infosIn e) (λ then. rw e) refl
 
 -- the table's refusals come first
-pub table-refused : {text bytes ends : List ℕ} {types ops : List (List ℕ)} {i : Inputs} (x : Refusal) → ((rest : Outcome) → underTable bytes ends rest ≡ refusedWith x) → i ≡ Refused x → Given text bytes ends types ops i
+pub table-refused : {text bytes ends : List ℕ} {types ops : List (List ℕ)} {i : Inputs} (x : Refusal) → ((rows none : List (List ℕ)) → rows ≡ rowsLeft x rows none) → ((rest : Outcome) → underTable bytes ends rest ≡ refusedWith x) → i ≡ Refused x
+    → Given text bytes ends types ops types ops i
 unfolding underInputs
-table-refused x stops e = refused x (λ then. stops _) e
+table-refused x kept stops e = refused x (kept _ _) (kept _ _) (λ then. stops _) e
 
 -- behind a good table the sheet decides
-pub table-ready : {text bytes ends : List ℕ} {types ops : List (List ℕ)} {r : Inputs} → ((rest : Outcome) → underTable bytes ends rest ≡ rest) → SheetGiven text types ops r → Given text bytes ends types ops r
+pub table-ready : {text bytes ends : List ℕ} {types₀ ops₀ types ops : List (List ℕ)} {r : Inputs} → ((rest : Outcome) → underTable bytes ends rest ≡ rest) → SheetGiven text types₀ ops₀ types ops r → Given text bytes ends types₀ ops₀ types ops r
 unfolding underInputs
-table-ready {text} {bytes} {ends} {types} {ops} {r} h g = by-case (g bytes ends)
+table-ready {text} {bytes} {ends} {types₀} {ops₀} {types} {ops} {r} h g = by-case (g bytes ends)
   where
-    by-case : Under text bytes ends (underContext (sheetOf text) text bytes ends) types ops r → Under text bytes ends (underInputs text bytes ends) types ops r
+    by-case : Under text bytes ends (underContext (sheetOf text) text bytes ends) types₀ ops₀ types ops r → Under text bytes ends (underInputs text bytes ends) types₀ ops₀ types ops r
     by-case (ready os t o l k q) = ready os t o l (λ then. h _ ∙ k then) q
-    by-case (refused x k q) = refused x (λ then. h _ ∙ k then) q
+    by-case (refused x t o k q) = refused x t o (λ then. h _ ∙ k then) q

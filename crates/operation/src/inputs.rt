@@ -12,9 +12,9 @@ pub enum Inputs {
     Refused(Refusal),
 }
 
-// Reads the sheet into its tables.
+// Reads the sheet into its tables; a malformed one, 1, leaves them zero.
 fn read_tables(sheet: &[u8], types: &mut [[u8; 8]; 256], ops: &mut [[usize; 4]; 256]) -> Inputs
-    ensures { λ r. ⌜ SheetGiven (now (sheet .entry)) (now (types .exit)) (now (ops .exit)) r ⌝ }
+    ensures { λ r. ⌜ SheetGiven (now (sheet .entry)) (now (types .entry)) (now (ops .entry)) (now (types .exit)) (now (ops .exit)) r ⌝ }
 {
     let s = sheet::opcode::read_sheet(sheet, types, ops);
     match s {
@@ -37,7 +37,7 @@ pub fn table_inputs(last: usize, bytes: &[u8], ends: &[u32]) -> Inputs
     }
 }
 
-// Looks at the string table, then reads the sheet into its tables.
+// Looks at the string table, 18 and 17, which leave the tables as they were; then reads the sheet into its tables.
 pub fn read_inputs(
     sheet: &[u8],
     bytes: &[u8],
@@ -45,7 +45,7 @@ pub fn read_inputs(
     types: &mut [[u8; 8]; 256],
     ops: &mut [[usize; 4]; 256],
 ) -> Inputs
-    ensures { λ r. ⌜ Given (now (sheet .entry)) (now (bytes .entry)) (now (ends .entry)) (now (types .exit)) (now (ops .exit)) r ⌝ }
+    ensures { λ r. ⌜ Given (now (sheet .entry)) (now (bytes .entry)) (now (ends .entry)) (now (types .entry)) (now (ops .entry)) (now (types .exit)) (now (ops .exit)) r ⌝ }
 {
     let i = table_inputs(0, bytes, ends);
     let Inputs::Ready(_) = i else {

@@ -1,4 +1,4 @@
-use Rattle.operation.proofs.TableLaws.{were-ready, were-refused}
+use Rattle.operation.proofs.TableLaws.{were-ready, were-refused, rows-kept}
 use Rattle.operation.proofs.UnderLaws.{table-refused, table-ready}
 use mathlib.Core.Path.{sym, _∙_}
 use borrow.Author.Needs.{needs}
@@ -17,7 +17,8 @@ enum-told-2 c = search needs
 returns : tie.Need-returns
 returns c =
     let e = c .enum-told2 .given .1 in
-    table-refused _ (were-refused _ _ _ _ (sym (c .before .before .table-inputs .ensures) ∙ e)) e
+    let t = sym (c .before .before .table-inputs .ensures) ∙ e in
+    table-refused _ (rows-kept _ _ _ _ t) (were-refused _ _ _ _ t) e
 
 read-tables-requires : tie.Need-read-tables-requires
 read-tables-requires c κs = search needs

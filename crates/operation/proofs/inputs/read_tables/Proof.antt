@@ -14,10 +14,10 @@ enum-known-s-2 : tie.Need-enum-known-s-2
 enum-known-s-2 c = search needs
 
 returns : tie.Need-returns
-returns c = let s = c .before .before .before .read-sheet .ensures in was-read (c .before .before .before .before .before .before .before .args .sheet .now) (sym (s .0) ∙ c .before .s .given .1) _ _ (s .1 .0) (s .1 .1)
+returns c = let s = c .before .before .before .read-sheet .ensures in was-read (c .before .before .before .before .before .before .before .args .sheet .now) (sym (s .0) ∙ c .before .s .given .1) _ _ _ _ (s .1 .0) (s .1 .1)
 
 returns-2 : tie.Need-returns-2
-returns-2 c = let s = c .before .before .before .read-sheet .ensures in was-malformed (c .before .before .before .before .before .before .before .args .sheet .now) _ _ (sym (s .0) ∙ c .before .s2 .given .1)
+returns-2 c = let s = c .before .before .before .read-sheet .ensures in was-malformed (c .before .before .before .before .before .before .before .args .sheet .now) (sym (s .0) ∙ c .before .s2 .given .1) _ _ _ _ (s .1 .0) (s .1 .1)
 
 pub read-tables-spec : {M : Type 1} → statement M
 read-tables-spec =

@@ -1,20 +1,19 @@
 -- Laws of lent space and what is recorded of it. Assumes nothing.
-use mathlib.Core.Path.{_≡_, refl, sym, ap, _∙_}
-use mathlib.Core.Bool.{Bool, true, false}
+use mathlib.Core.Path.{_≡_, refl, sym, _∙_}
+use mathlib.Core.Bool.{true, false}
 use mathlib.Core.List.{List, [], _∷_}
 use Prim.Native.Nat.{ℕ, zero, suc, _+_, _-_, _<_, _≤_}
 use native.Mathlib.Numerals.{add-one}
 use native.Mathlib.Omega.{arith}
 use borrow.Author.Tests.{eq-eqb, ne-eqb}
 use lib.Dec.{eqb}
-use lib.ListN.{length, take, drop, getD, drop-of-length-le}
+use lib.ListN.{length, take, drop, getD, replicate, drop-of-length-le}
 use lib.Seq.{drop-cons}
-use Rattle.lists.specs.Choice.{pick, both}
-use Rattle.lists.specs.Scan.{all, same, opens}
+use Rattle.lists.specs.Scan.{same, opens}
 use Rattle.lists.proofs.Parts.{tail-part}
 use Rattle.lists.proofs.Scans.{opens-short}
 use Rattle.lists.proofs.Tests.{by-eqb}
-use Rattle.replay.specs.Lent.{allAre, leftAs}
+use Rattle.replay.specs.Lent.{allAre, leftAs, isClear, areClear}
 
 eqb-sym : (a b : ℕ) → eqb a b ≡ eqb b a
 eqb-sym a b = by-eqb a b (λ e. rw e) (λ n. ne-eqb a b n ∙ sym (ne-eqb b a (λ e. n (sym e))))
@@ -48,3 +47,39 @@ module _ (lent expected : List ℕ) (number : ℕ) where
     pub left-refused : same (take (length expected - 0) lent) expected ≡ true → (number ≡ 0 → ⊥) → allAre 0 lent ≡ leftAs lent expected number
     unfolding leftAs
     left-refused e n = rw (sym front ∙ e, ne-eqb _ _ n)
+
+-- an entry is zero, or one of its words is not
+module _ (s : List ℕ) where
+  pub entry-zero : getD s 0 0 ≡ 0 → getD s 1 0 ≡ 0 → getD s 2 0 ≡ 0 → isClear s ≡ true
+  entry-zero a b c = rw (eq-eqb _ _ a, eq-eqb _ _ b, eq-eqb _ _ c)
+
+  pub first-other : (getD s 0 0 ≡ 0 → ⊥) → isClear s ≡ false
+  first-other a = rw (ne-eqb _ _ a)
+
+  module _ (a : getD s 0 0 ≡ 0) where
+    pub second-other : (getD s 1 0 ≡ 0 → ⊥) → isClear s ≡ false
+    second-other b = rw (eq-eqb _ _ a, ne-eqb _ _ b)
+
+    pub third-other : getD s 1 0 ≡ 0 → (getD s 2 0 ≡ 0 → ⊥) → isClear s ≡ false
+    third-other b c = rw (eq-eqb _ _ a, eq-eqb _ _ b, ne-eqb _ _ c)
+
+-- whether every entry is zero, from one on
+module _ (labels : List (List ℕ)) (i : ℕ) where
+  pub clear-end : length labels ≤ i → areClear (drop i labels) ≡ true
+  unfolding areClear
+  clear-end h = rw (drop-of-length-le labels h)
+
+  module _ (h : i < length labels) where
+    pub clear-go : isClear (getD labels i []) ≡ true → areClear (drop i labels) ≡ areClear (drop (i + 1) labels)
+    unfolding areClear
+    clear-go e = rw (add-one i, drop-cons labels i [] h, e)
+
+    pub clear-stop : isClear (getD labels i []) ≡ false → areClear (drop i labels) ≡ false
+    unfolding areClear
+    clear-stop e = rw (drop-cons labels i [] h, e)
+
+-- cleared entries are zero
+pub cleared-clear : (n : ℕ) → areClear (replicate n (0 ∷ 0 ∷ 0 ∷ [])) ≡ true
+unfolding areClear
+cleared-clear zero = refl
+cleared-clear (suc n) = cleared-clear n

@@ -1,14 +1,16 @@
 -- Laws of numbers of w little-endian bytes each. Assumes nothing.
-use mathlib.Core.Path.{_≡_, refl, sym, ap, _∙_}
+use mathlib.Core.Path.{_≡_, refl, ap, _∙_}
 use mathlib.Core.List.{List, [], _∷_, _++_, append-assoc, append-nil}
-use Prim.Native.Nat.{ℕ, zero, suc, _+_, _*_, _/_, _<_, _≤_, min}
-use native.Mathlib.Nat.{mul-suc, mul-zero, add-zero, add-assoc}
+use Prim.Native.Nat.{ℕ, zero, suc, _+_, _-_, _*_, _/_, _%_, _<_, _≤_, min}
+use native.Mathlib.Nat.{mul-suc, mul-zero}
 use native.Mathlib.Numerals.{add-one}
 use native.Mathlib.Omega.{arith}
 use lib.ListN.{length, take, drop, getD, set, drop-of-length-le}
-use lib.Seq.{drop-cons, drop-drop, set-at}
-use Rattle.lists.specs.Scan.{part}
+use lib.Seq.{drop-cons, drop-drop, set-at, take-at, length-take-le}
+use Rattle.lists.specs.Scan.{Bytes, part}
+use Rattle.lists.proofs.Parts.{bytes-drop}
 use Rattle.spec_numbers.specs.LittleEndian.{le, leBytes}
+use Rattle.spec_numbers.proofs.ByteLaws.{le-bound}
 use Rattle.replay.specs.Words.{numbersIn, numbersOver, bytesOf}
 
 -- n numbers are n
@@ -52,3 +54,27 @@ bytes-next w vs i h = rw (add-one i, drop-cons vs i 0 h)
 pub bytes-end : (w : ℕ) (vs : List ℕ) (i : ℕ) → length vs ≤ i → bytesOf w (drop i vs) ≡ []
 unfolding bytesOf
 bytes-end w vs i h = rw (drop-of-length-le vs h)
+
+-- four bytes make a number below 2^32, which the code's remainder leaves as it is
+pub four-bytes : (s : List ℕ) (at : ℕ) → Bytes s → {r : ℕ} → r ≡ le (part s at 4) → (r % 4294967296 ≡ le (part s at 4)) × (r % 4294967296 ≤ 4294967295)
+four-bytes s at b e =
+    let h : le (part s at 4) < 4294967296 = le-bound 4 (drop at s) (bytes-drop s at b) in
+    (omega (arith, e, h), omega arith)
+
+-- all numbers are set where there are bytes for each
+pub over-all : (w : ℕ) (s old : List ℕ) → length old ≤ length s / w → numbersOver w s old ≡ numbersIn w (length old) s
+unfolding numbersOver
+over-all w s old h =
+    let m : min (length old) (length s / w) ≡ length old = omega arith in
+    rw (m, drop-of-length-le old {i = length old} (omega arith), append-nil)
+
+-- the numbers of the bytes, in front of those that stay
+pub over-front : (w : ℕ) (s old : List ℕ) → length s / w ≤ length old → take (length s / w) (numbersOver w s old) ≡ numbersIn w (length s / w) s
+unfolding numbersOver
+over-front w s old h =
+    let m : min (length old) (length s / w) ≡ length s / w = omega arith in
+    rw m (take-at (numbersIn w (length s / w) s) (drop (length s / w) old) (length s / w) (length-numbers w (length s / w) s))
+
+-- as many words as are lent of a space
+pub front-length : {A : Type 0} (l : List A) (n : ℕ) → n ≤ length l → length (take (n - 0) l) ≡ n
+front-length l n h = length-take-le (n - 0) l (omega arith) ∙ omega arith

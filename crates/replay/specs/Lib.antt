@@ -1,2 +1,5 @@
 pub mod Words
 pub mod Lent
+pub mod Cases
+pub mod Performs
+pub mod Turns

@@ -1,6 +1,14 @@
 // Assembling a recorded text: its input holds the string table and how many label entries are lent, too.
-ghost use Prim.Native.Nat.{_+_, _≤_};
+ghost use mathlib.Core.Path.{_≡_};
+ghost use mathlib.Core.List.{[], _∷_};
+ghost use Prim.Native.Nat.{_+_, _*_, _≤_};
 ghost use lib.ListN.{length};
+ghost use Rattle.lists.specs.Scan.{part};
+ghost use Rattle.spec_numbers.specs.LittleEndian.{le};
+ghost use Rattle.spec_hasm.specs.Operation as hasm;
+ghost use Rattle.replay.specs.Words.{numbersOver};
+ghost use Rattle.replay.specs.Lent.{areClear};
+ghost use Rattle.replay.specs.Performs.{done, ended, assembledFrom, assembled};
 use crate::parts::Performed;
 use numbers::io::read_le;
 use slices::part::part_of;
@@ -9,7 +17,9 @@ use slices::part::part_of;
 const WORD: u32 = 0xA5A5A5A5;
 
 // Sets the ends to those whose little-endian bytes s holds, as far as both go.
-fn ends_of(s: &[u8], ends: &mut [u32]) {
+fn ends_of(s: &[u8], ends: &mut [u32])
+    ensures { λ _. ⌜ now (ends .exit) ≡ numbersOver 4 (now (s .entry)) (now (ends .entry)) ⌝ }
+{
     let mut at: usize = 0;
     let mut i: usize = 0;
     while i < ends.len() {
@@ -23,7 +33,9 @@ fn ends_of(s: &[u8], ends: &mut [u32]) {
 }
 
 // Whether every label entry is zero.
-fn are_clear(labels: &[[u32; 3]]) -> bool {
+fn are_clear(labels: &[[u32; 3]]) -> bool
+    ensures { λ r. ⌜ r ≡ areClear (now (labels .entry)) ⌝ }
+{
     let mut i: usize = 0;
     while i < labels.len() {
         let slot = labels[i];
@@ -43,7 +55,9 @@ fn assemble_text(
     text: &[u8],
     out: &mut [u8],
     labels: &mut [[u32; 3]],
-) -> Performed {
+) -> Performed
+    ensures { λ r. ⌜ done r (now (out .exit)) ≡ ended (hasm.assemble (now (sheet .entry)) (now (bytes .entry)) (now (ends .entry)) (now (text .entry))) (length (now (labels .entry)) ∷ []) (now (out .entry)) ⌝ }
+{
     let a = desk_host::desk_assemble(sheet, bytes, ends, text, out, labels);
     if are_clear(labels) {
         return Performed::Answered(a);
@@ -61,7 +75,8 @@ fn assemble_parts(
     out: &mut [u8],
     labels: &mut [[u32; 3]],
 ) -> Performed
-    requires { ⌜ («from» ≤ 256) × (size ≤ 4294967295) ⌝ }
+    requires { ⌜ («from» ≡ 4 * length (now ends)) × («from» ≤ 256) × (size ≤ 4294967295) ⌝ }
+    ensures { λ r. ⌜ done r (now (out .exit)) ≡ assembledFrom (now (sheet .entry)) (now (rest .entry)) (length (now (ends .entry))) size (length (now (labels .entry))) (now (out .entry)) ⌝ }
 {
     let behind = from + size;
     if rest.len() < behind {
@@ -81,7 +96,7 @@ fn assemble_parts(
 // A number in front of the input.
 fn size_at(input: &[u8], at: usize) -> usize
     requires { ⌜ at + 4 ≤ length (now input) ⌝ }
-    ensures { λ r. ⌜ r ≤ 4294967295 ⌝ }
+    ensures { λ r. ⌜ (r ≡ le (part (now (input .entry)) at 4)) × (r ≤ 4294967295) ⌝ }
 {
     (read_le(input, at, 4) % 0x1_0000_0000) as usize
 }
@@ -93,7 +108,10 @@ fn assemble_within(
     ends: &mut [u32],
     out: &mut [u8],
     labels: &mut [[u32; 3]],
-) -> Performed {
+) -> Performed
+    requires { ⌜ (length (now ends) ≡ 64) × (length (now labels) ≡ 64) ⌝ }
+    ensures { λ r. ⌜ done r (now (out .exit)) ≡ assembled (now (sheet .entry)) (now (input .entry)) (now (out .entry)) ⌝ }
+{
     if input.len() < 12 {
         return Performed::Broken;
     }
@@ -121,7 +139,9 @@ fn assemble_within(
 }
 
 // Assembles the text behind the string table.
-pub fn assemble(sheet: &[u8], input: &[u8], out: &mut [u8]) -> Performed {
+pub fn assemble(sheet: &[u8], input: &[u8], out: &mut [u8]) -> Performed
+    ensures { λ r. ⌜ done r (now (out .exit)) ≡ assembled (now (sheet .entry)) (now (input .entry)) (now (out .entry)) ⌝ }
+{
     let mut ends = [0u32; 64];
     let mut labels = [[WORD; 3]; 64];
     assemble_within(sheet, input, &mut ends, out, &mut labels)

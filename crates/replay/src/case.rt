@@ -1,5 +1,7 @@
 // Reading a case from standard input.
+ghost use mathlib.Core.Path.{_≡_};
 ghost use Prim.Native.Nat.{_<_};
+ghost use Rattle.replay.specs.Cases.{numberAt, Reads, Fronted, PartsRead};
 use libc::STDIN_FILENO;
 use numbers::io::read_le;
 
@@ -24,18 +26,22 @@ pub enum HeadRead {
 
 fn number_at(b: &[u8; 36], i: usize) -> u64
     requires { ⌜ i < 9 ⌝ }
+    ensures { λ r. ⌜ r ≡ numberAt (now (b .entry)) i ⌝ }
 {
     read_le(b, 4 * i, 4)
 }
 
 fn size_at(b: &[u8; 36], i: usize) -> usize
     requires { ⌜ i < 9 ⌝ }
+    ensures { λ r. ⌜ r ≡ numberAt (now (b .entry)) i ⌝ }
 {
     number_at(b, i) as usize
 }
 
 // The next case's numbers, or that there is no further case.
-pub fn read_head() -> HeadRead {
+pub fn read_head() -> HeadRead
+    ensures { λ r. ⌜ Reads r ⌝ }
+{
     let mut b = [0u8; 36];
     let got = io::read_full(STDIN_FILENO, &mut b);
     if got == 0 {
@@ -58,7 +64,9 @@ pub fn read_head() -> HeadRead {
 }
 
 // Reads n bytes to the front of s, and answers whether they fit and were all there.
-fn read_front(s: &mut [u8], n: usize) -> bool {
+fn read_front(s: &mut [u8], n: usize) -> bool
+    ensures { λ r. ⌜ Fronted (now (s .entry)) n (now (s .exit)) r ⌝ }
+{
     if s.len() < n {
         return false;
     }
@@ -66,7 +74,9 @@ fn read_front(s: &mut [u8], n: usize) -> bool {
 }
 
 // Reads the sheet, the input and the expected output, each to the front of its space.
-pub fn read_parts(head: Head, sheet: &mut [u8], input: &mut [u8], expected: &mut [u8]) -> bool {
+pub fn read_parts(head: Head, sheet: &mut [u8], input: &mut [u8], expected: &mut [u8]) -> bool
+    ensures { λ r. ⌜ PartsRead head (now (sheet .entry)) (now (input .entry)) (now (expected .entry)) (now (sheet .exit)) (now (input .exit)) (now (expected .exit)) r ⌝ }
+{
     if !read_front(sheet, head.sheet) {
         return false;
     }

@@ -49,6 +49,10 @@ mod lent;
 mod operations;
 mod parts;
 
+ghost use mathlib.Core.Path.{_≡_};
+ghost use lib.ListN.{length};
+ghost use Rattle.replay.specs.Cases.{sheetSize};
+ghost use Rattle.replay.specs.Turns.{comparedOn, caseTurn, Tried, Next};
 use crate::case::Head;
 use crate::case::HeadRead;
 use crate::parts::Performed;
@@ -77,7 +81,9 @@ struct Outcome {
 const MOST_CASES: u64 = 1000000;
 
 // Runs a case whose parts have been read, and compares. `lent` has as many bytes as the case lends.
-fn compared(head: Head, sheet: &[u8], input: &[u8], expected: &[u8], lent: &mut [u8]) -> Turn {
+fn compared(head: Head, sheet: &[u8], input: &[u8], expected: &[u8], lent: &mut [u8]) -> Turn
+    ensures { λ r. ⌜ r ≡ comparedOn (length (now (lent .entry))) head (now (sheet .entry)) (now (input .entry)) (now (expected .entry)) ⌝ }
+{
     crate::lent::fill(lent, crate::lent::FILL);
     match operations::perform(head.operation, sheet, input, lent) {
         Performed::Answered(a) => {
@@ -95,7 +101,9 @@ fn compared(head: Head, sheet: &[u8], input: &[u8], expected: &[u8], lent: &mut 
 }
 
 // Lends as many bytes as the case says, and compares.
-fn lend(head: Head, sheet: &[u8], input: &[u8], expected: &[u8]) -> Turn {
+fn lend(head: Head, sheet: &[u8], input: &[u8], expected: &[u8]) -> Turn
+    ensures { λ r. ⌜ r ≡ caseTurn head (now (sheet .entry)) (now (input .entry)) (now (expected .entry)) ⌝ }
+{
     let size = crate::parts::lent_size(head.operation, head.room);
     if 65536 < size {
         return Turn::Stops(Stop::Broken);
@@ -105,7 +113,9 @@ fn lend(head: Head, sheet: &[u8], input: &[u8], expected: &[u8]) -> Turn {
 }
 
 // How many bytes the sheet of a case has; `used` is that of the case before.
-fn sheet_size(head: Head, used: usize) -> usize {
+fn sheet_size(head: Head, used: usize) -> usize
+    ensures { λ r. ⌜ r ≡ sheetSize head used ⌝ }
+{
     if head.sheet == 0 { used } else { head.sheet }
 }
 
@@ -116,7 +126,9 @@ fn try_case(
     sheet: &mut [u8],
     input: &mut [u8],
     expected: &mut [u8],
-) -> Turn {
+) -> Turn
+    ensures { λ r. ⌜ Tried head used (now (sheet .exit)) (now (input .exit)) (now (expected .exit)) r ⌝ }
+{
     if !crate::case::read_parts(head, sheet, input, expected) {
         return Turn::Stops(Stop::Broken);
     }
@@ -129,7 +141,9 @@ fn try_case(
 }
 
 // The next case.
-fn next_case(used: usize, sheet: &mut [u8], input: &mut [u8], expected: &mut [u8]) -> Turn {
+fn next_case(used: usize, sheet: &mut [u8], input: &mut [u8], expected: &mut [u8]) -> Turn
+    ensures { λ r. ⌜ Next used (now (sheet .exit)) (now (input .exit)) (now (expected .exit)) r ⌝ }
+{
     match crate::case::read_head() {
         HeadRead::Is(head) => try_case(head, used, sheet, input, expected),
         HeadRead::End => Turn::Stops(Stop::End),

@@ -1,4 +1,8 @@
 // The answer of an operation, how much an operation lends, and the operations on numbers and escapes.
+ghost use mathlib.Core.Path.{_≡_};
+ghost use Rattle.answers.specs.Report.{success};
+ghost use Rattle.replay.specs.Cases.{lentSize, sameAnswer};
+ghost use Rattle.replay.specs.Performs.{done, reported, printed, valued, numberPrinted, inputPrinted, partPerformed};
 use crate::case::Head;
 use answers::numbers::Numbers;
 use desk_parts::PartNumber;
@@ -16,7 +20,9 @@ pub enum Performed {
 
 // How many bytes an operation lends for a room. One that reads a number has the 8 bytes of its value there. A room past
 // the limit stays past it.
-pub fn lent_size(operation: u64, room: usize) -> usize {
+pub fn lent_size(operation: u64, room: usize) -> usize
+    ensures { λ r. ⌜ r ≡ lentSize operation room ⌝ }
+{
     if 65536 < room {
         return room;
     }
@@ -28,7 +34,9 @@ pub fn lent_size(operation: u64, room: usize) -> usize {
 }
 
 // Has the desk print or read a number, or write or read escapes.
-pub fn perform_part(operation: u64, input: &[u8], lent: &mut [u8]) -> Performed {
+pub fn perform_part(operation: u64, input: &[u8], lent: &mut [u8]) -> Performed
+    ensures { λ r. ⌜ done r (now (lent .exit)) ≡ partPerformed operation (now (input .entry)) (now (lent .entry)) ⌝ }
+{
     match operation {
         3 => value_read(desk_parts::part_parse_u32(input), lent),
         4 => value_read(desk_parts::part_parse_hex(input), lent),
@@ -41,7 +49,9 @@ pub fn perform_part(operation: u64, input: &[u8], lent: &mut [u8]) -> Performed 
 }
 
 // The operations that print the number whose 8 bytes are the input.
-fn print(operation: u64, input: &[u8], lent: &mut [u8]) -> Performed {
+fn print(operation: u64, input: &[u8], lent: &mut [u8]) -> Performed
+    ensures { λ r. ⌜ done r (now (lent .exit)) ≡ inputPrinted operation (now (input .entry)) (now (lent .entry)) ⌝ }
+{
     if input.len() != 8 {
         return Performed::Broken;
     }
@@ -55,7 +65,9 @@ fn print(operation: u64, input: &[u8], lent: &mut [u8]) -> Performed {
     }
 }
 
-fn print_signed(n: u64, lent: &mut [u8]) -> Performed {
+fn print_signed(n: u64, lent: &mut [u8]) -> Performed
+    ensures { λ r. ⌜ done r (now (lent .exit)) ≡ numberPrinted 8 n (now (lent .entry)) ⌝ }
+{
     if 0xffff_ffff < n {
         return Performed::Broken;
     }
@@ -63,12 +75,16 @@ fn print_signed(n: u64, lent: &mut [u8]) -> Performed {
 }
 
 // A text of n bytes was written.
-pub fn written(n: usize) -> Performed {
+pub fn written(n: usize) -> Performed
+    ensures { λ r. ⌜ r ≡ reported (success n) ⌝ }
+{
     answered(0, n as u64)
 }
 
 // A number was read, and its value goes to the lent bytes, or the text is none.
-fn value_read(n: PartNumber, lent: &mut [u8]) -> Performed {
+fn value_read(n: PartNumber, lent: &mut [u8]) -> Performed
+    ensures { λ r. ⌜ done r (now (lent .exit)) ≡ valued n (now (lent .entry)) ⌝ }
+{
     if n.found == 1 {
         put_le(lent, 0, 8, n.value);
         return answered(0, 0);
@@ -77,7 +93,9 @@ fn value_read(n: PartNumber, lent: &mut [u8]) -> Performed {
     answered(1, 0)
 }
 
-fn answered(number: u64, length: u64) -> Performed {
+fn answered(number: u64, length: u64) -> Performed
+    ensures { λ r. ⌜ r ≡ reported (record { number = number; place = 0; operand = 0; length = length }) ⌝ }
+{
     Performed::Answered(Numbers {
         number,
         place: 0,
@@ -87,7 +105,9 @@ fn answered(number: u64, length: u64) -> Performed {
 }
 
 // Whether an answer is the recorded one.
-pub fn same_answer(head: Head, a: Numbers) -> bool {
+pub fn same_answer(head: Head, a: Numbers) -> bool
+    ensures { λ r. ⌜ r ≡ sameAnswer head a ⌝ }
+{
     if head.number != a.number {
         return false;
     }

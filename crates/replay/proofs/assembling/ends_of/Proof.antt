@@ -1,18 +1,24 @@
-use mathlib.Core.Path.{_≡_}
-use lib.ListN.{length}
-use Prim.Native.Nat.{_-_, _≤_}
+use mathlib.Core.Path.{_≡_, refl, _∙_}
+use mathlib.Core.List.{_++_}
+use Prim.Native.Nat.{_-_, _*_, _≤_}
+use native.Mathlib.Omega.{arith}
+use lib.ListN.{length, drop, length-set}
+use Rattle.replay.specs.Words.{numbersIn}
+use Rattle.replay.proofs.WordLaws.{four-bytes, over-start, over-turn, over-end}
 use borrow.Author.Needs.{needs}
 use Rattle.replay.proofs.assembling.ends_of.Statement.{statement}
 use Rattle.replay.proofs.assembling.ends_of.Tie as tie
 
 abbrev Inv-loop : tie.InvT-loop
-Inv-loop s ends₀ at₀ i₀ ends at i = (i ≤ length ends₀) × (at ≤ length s) × (length ends ≡ length ends₀)
+Inv-loop s ends₀ at₀ i₀ ends at i = (i ≤ length ends₀) × (at ≤ length s) × (length ends ≡ length ends₀) × (at ≡ 4 * i) × (ends ≡ numbersIn 4 i s ++ drop i ends₀)
 
 abbrev μ-loop : tie.MeasureT-loop
 μ-loop s ends₀ at₀ i₀ ends at i = length ends₀ - i
 
 loop-holds : tie.Need-loop-holds Inv-loop μ-loop
-loop-holds c = search needs
+loop-holds c =
+    let a = c .before .before .args in
+    (omega arith, omega arith, refl, omega arith, over-start 4 (a .s .now) (a .ends .now))
 
 sub-if1 : tie.Need-sub-if1 Inv-loop μ-loop
 sub-if1 c = search needs
@@ -21,7 +27,10 @@ same-length : tie.Need-same-length Inv-loop μ-loop
 same-length c = search needs
 
 returns : tie.Need-returns Inv-loop μ-loop
-returns c = search needs
+returns c =
+    let l = c .before .before .loop in
+    let a = c .before .before .before .before .before .args in
+    over-end 4 (a .s .now) (a .ends .now) (l .ends) (l .i) (omega arith) (l .inv .4)
 
 read-le-requires : tie.Need-read-le-requires Inv-loop μ-loop
 read-le-requires c κs = search needs
@@ -45,13 +54,24 @@ loop-less : tie.Need-loop-less Inv-loop μ-loop
 loop-less c = search needs
 
 loop-again : tie.Need-loop-again Inv-loop μ-loop
-loop-again c = search needs
+loop-again c =
+    let l = c .before .before .before .loop in
+    let a = c .before .before .before .before .before .before .args in (
+      omega arith,
+      omega arith,
+      length-set (l .ends) (l .i) _ ∙ l .inv .2,
+      omega arith,
+      rw (l .inv .4, four-bytes (a .s .now) (l .at) (λ i. c .before .before .before .before .before .shared-slice-known .given i .fits) (c .read-le .ensures) .0) (over-turn 4 (a .s .now) (a .ends .now) (l .i) (l .at) (l .inv .3) (omega arith)),
+    )
 
 same-length-2 : tie.Need-same-length-2 Inv-loop μ-loop
 same-length-2 c = search needs
 
 returns-2 : tie.Need-returns-2 Inv-loop μ-loop
-returns-2 c = search needs
+returns-2 c =
+    let l = c .before .loop in
+    let a = c .before .before .before .before .args in
+    over-end 4 (a .s .now) (a .ends .now) (l .ends) (l .i) (omega arith) (l .inv .4)
 
 pub ends-of-spec : {M : Type 1} → statement M
 ends-of-spec =

@@ -5,17 +5,11 @@ use native.Mathlib.Omega.{arith}
 use Rattle.answers.specs.Report.{Report}
 use Rattle.answers.specs.Refusals.{faultNumber, refusalReport}
 use Rattle.answers.specs.Numbers.{numbersOf, reportIn}
-use Rattle.answers.specs.declared.numbers.Numbers.{Numbers}
+use Rattle.answers.specs.declared.report.Numbers.{Numbers}
 use Rattle.answers.specs.declared.refusal.OperandFault.{OperandFault}
 use Rattle.answers.specs.declared.refusal.OperandFault.the-variants as fault
 use Rattle.answers.specs.declared.refusal.Refusal.{Refusal}
 use Rattle.answers.specs.declared.refusal.Refusal.the-variants.{Malformed, BadByte, LongLine, UnknownName, OperandCount, BadOperand, Beyond, Cut, BadRecord, BadString, TooLarge, NoFunction}
-
-pub same-number : {answer : Report} {n : Numbers} → n ≡ numbersOf answer → n .number ≡ answer .number
-same-number q = ap (λ (m : Numbers). m .number) q
-
-pub same-length : {answer : Report} {n : Numbers} → n ≡ numbersOf answer → n .length ≡ answer .length
-same-length q = ap (λ (m : Numbers). m .length) q
 
 -- the report that the numbers of a report are
 pub same-report : {answer : Report} {n : Numbers} → n ≡ numbersOf answer → reportIn n ≡ answer

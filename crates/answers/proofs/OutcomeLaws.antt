@@ -17,7 +17,7 @@ use Rattle.answers.specs.declared.refusal.Refusal.{Refusal}
 use Rattle.answers.specs.declared.refusal.Refusal.the-variants.{TooLarge}
 use Rattle.answers.proofs.NumberLaws.{number-some, no-length, same-report}
 use Rattle.answers.specs.Numbers.{numbersOf, reportIn}
-use Rattle.answers.specs.declared.numbers.Numbers.{Numbers}
+use Rattle.answers.specs.declared.report.Numbers.{Numbers}
 
 either-true : (a : Bool) → either a true ≡ true
 either-true true = refl

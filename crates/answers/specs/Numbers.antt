@@ -1,6 +1,6 @@
 -- The four numbers of a report, as a C function returns them. Assumes nothing.
 use Rattle.answers.specs.Report.{Report}
-use Rattle.answers.specs.declared.numbers.Numbers.{Numbers}
+use Rattle.answers.specs.declared.report.Numbers.{Numbers}
 
 -- a report's numbers, each in the field of its name
 abbrev pub numbersOf : Report → Numbers

@@ -3,11 +3,11 @@ ghost use mathlib.Core.Path.{_≡_};
 ghost use Rattle.answers.specs.Numbers.{numbersOf};
 ghost use Rattle.operation.specs.Ends.{measuredReport};
 ghost use Rattle.assemble.specs.Answers.{assembleReport};
-use answers::numbers::Numbers;
-use answers::numbers::done;
-use answers::numbers::refusal_numbers;
-use answers::numbers::short;
 use answers::refusal::Refusal;
+use answers::report::Numbers;
+use answers::report::done;
+use answers::report::refusal_numbers;
+use answers::report::short;
 use operation::ending::Measured;
 
 // The length of a body; why there is none; or that the lent space is too short for it.

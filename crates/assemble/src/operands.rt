@@ -48,7 +48,7 @@ fn put_value(out: &mut [u8], k: usize, code: u8, bits: u64) -> usize
     let Fitted::Bits(n) = fitted else {
         return k;
     };
-    numbers::io::put_le(out, k, sheet::operand_types::width(code), n)
+    numbers::little_endian::put_le(out, k, sheet::operand_types::width(code), n)
 }
 
 // Writes the operands that stand in s, whose types are the row's, from `place` on.

@@ -56,7 +56,7 @@ fn put_by_tables(
     while i < 8 {
         let c = row[i];
         let width = width_at(codes, c);
-        let bits = numbers::io::read_of_eight(s, p, width);
+        let bits = numbers::little_endian::read_of_eight(s, p, width);
         put_pair(out, k + 2 * i, wide_byte(kind_at(codes, c)), bits);
         p += width;
         i += 1;

@@ -11,7 +11,7 @@ ghost use Rattle.spec_listing.specs.Operation as listing;
 ghost use Rattle.listing.specs.Parts.{optionsFrom};
 ghost use Rattle.listing.specs.Functions.{areaOf};
 ghost use Rattle.spec_hasm.specs.Operation as hasm;
-use answers::numbers::Numbers;
+use answers::report::Numbers;
 use decode::answer::decode_numbers;
 use encode::answer::encode_numbers;
 use hasm_labels::label_entry::Slot;

@@ -41,7 +41,7 @@ pub(crate) fn encode_operands(
         let Fitted::Bits(n) = fitted else {
             return Wrote::Refused(Refusal::BadOperand(OperandFault::Misfit, i, j + 1));
         };
-        k = numbers::io::put_le(out, k, sheet::operand_types::width(c), n);
+        k = numbers::little_endian::put_le(out, k, sheet::operand_types::width(c), n);
         j += 1;
     }
     Wrote::To(k)

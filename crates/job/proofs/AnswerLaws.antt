@@ -12,6 +12,8 @@ use Rattle.lists.specs.Found.{Found}
 use Rattle.lists.specs.Found.Found.{found, missing}
 use Rattle.limits.specs.Limits.{jobOutput, jobLabels}
 use Rattle.answers.specs.Report.{Report, zeros}
+use Rattle.answers.specs.Numbers.{numbersOf}
+use Rattle.answers.specs.declared.report.Numbers.{Numbers}
 use Rattle.answers.specs.Refusals.{refusalReport}
 use Rattle.answers.specs.Outcome.{Outcome, Space, sizes, lent, Ended}
 use Rattle.answers.specs.Outcome.Outcome.{refusedWith}
@@ -88,3 +90,7 @@ told-length x before entries out r s e = length-within x before entries out r (h
 
 pub refusal-length : (f : Refusal) (before : List ℕ) → refusalReport f .length ≤ length before
 refusal-length f before = omega (arith, no-length f)
+
+-- the length that numbers tell is the report's
+pub length-told : {answer : Report} {n : Numbers} → n ≡ numbersOf answer → n .length ≡ answer .length
+length-told q = ap (λ (m : Numbers). m .length) q

@@ -8,8 +8,8 @@ ghost use Rattle.answers.specs.Numbers.{reportIn};
 ghost use Rattle.answers.specs.Refusals.{refusalReport};
 ghost use Rattle.spec_job.specs.Printed.{refusedText, hexOf, bodyText};
 ghost use Rattle.job.specs.Prints.{Prints, answerText};
-use answers::numbers::Numbers;
 use answers::refusal::Refusal;
+use answers::report::Numbers;
 use numbers::print_decimal::put_decimal;
 use slices::write::put_bytes;
 
@@ -35,7 +35,7 @@ fn put_refused(out: &mut [u8], n: Numbers) -> usize
 pub(crate) fn refused(out: &mut [u8], x: Refusal) -> usize
     ensures { λ r. ⌜ Put (now (out .entry)) 0 (refusedText (refusalReport x)) (now (out .exit)) r ⌝ }
 {
-    put_refused(out, answers::numbers::refusal_numbers(x))
+    put_refused(out, answers::report::refusal_numbers(x))
 }
 
 // Writes two upper-case digits a byte.

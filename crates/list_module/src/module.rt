@@ -2,8 +2,9 @@
 ghost use mathlib.Core.Path.{_≡_};
 ghost use mathlib.Core.List.{[], _∷_};
 ghost use Prim.Native.Nat.{_+_, min, max};
-ghost use lib.ListN.{length, replicate};
+ghost use lib.ListN.{length};
 ghost use Rattle.limits.specs.Limits.{listingLimit};
+ghost use Rattle.answers.specs.Report.{cleared};
 ghost use Rattle.answers.specs.Outcome.{Ended};
 ghost use Rattle.spec_listing.specs.Module.{listAll};
 ghost use Rattle.spec_listing.specs.Operation as operation;
@@ -130,7 +131,7 @@ pub fn list_module(
     entries: &mut [u32],
 ) -> ListAnswer
     ensures { λ r. ⌜ Ended (operation.listModule (optionsOf options) (now (sheet .entry)) (now (bytes .entry)) (now (ends .entry)) (areaOf (now (functions .entry)) (now (area .entry)) base)) (now (out .entry)) (length (now (entries .entry)) ∷ []) (now (out .exit)) (listReport r) ⌝ }
-    ensures { λ _. ⌜ now (entries .exit) ≡ replicate (length (now (entries .entry))) 0 ⌝ }
+    ensures { λ _. ⌜ now (entries .exit) ≡ cleared 0 (now (entries .entry)) ⌝ }
 {
     slices::clearing::clear_entries(entries);
     let mut types = [[0u8; 8]; 256];

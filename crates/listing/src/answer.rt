@@ -4,11 +4,11 @@ ghost use lib.ListN.{length};
 ghost use Rattle.answers.specs.Numbers.{numbersOf};
 ghost use Rattle.listing.specs.Answers.{listReport, answerOf, outputAfter};
 use crate::body::Part;
-use answers::numbers::Numbers;
-use answers::numbers::done;
-use answers::numbers::refusal_numbers;
-use answers::numbers::short;
 use answers::refusal::Refusal;
+use answers::report::Numbers;
+use answers::report::done;
+use answers::report::refusal_numbers;
+use answers::report::short;
 use operation::ending::Measured;
 
 // What listing answers. The definition listReport gives each case its number, place, operand and length.

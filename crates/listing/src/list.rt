@@ -2,7 +2,7 @@
 ghost use mathlib.Core.Path.{_≡_};
 ghost use mathlib.Core.List.{[], _∷_};
 ghost use Prim.Native.Nat.{_≤_};
-ghost use lib.ListN.{length, replicate};
+ghost use lib.ListN.{length};
 ghost use Rattle.limits.specs.Limits.{bodyLimit};
 ghost use Rattle.spec_body.specs.Decode.{decodeBody};
 ghost use Rattle.spec_listing.specs.Listing.{listDecoded};
@@ -10,6 +10,7 @@ ghost use Rattle.spec_listing.specs.Operation as operation;
 ghost use Rattle.spec_listing.specs.Operation.{listOutcome};
 ghost use Rattle.listing.specs.Parts.{optionsOf};
 ghost use Rattle.spec_inputs.specs.Context.{contextFrom};
+ghost use Rattle.answers.specs.Report.{cleared};
 ghost use Rattle.answers.specs.Outcome.{Ended};
 ghost use Rattle.listing.specs.Answers.{listReport};
 use crate::answer::ListAnswer;
@@ -61,7 +62,7 @@ pub fn list(
     entries: &mut [u32],
 ) -> ListAnswer
     ensures { λ r. ⌜ Ended (operation.list (optionsOf options) (now (sheet .entry)) (now (bytes .entry)) (now (ends .entry)) (now (body .entry))) (now (out .entry)) (length (now (entries .entry)) ∷ []) (now (out .exit)) (listReport r) ⌝ }
-    ensures { λ _. ⌜ now (entries .exit) ≡ replicate (length (now (entries .entry))) 0 ⌝ }
+    ensures { λ _. ⌜ now (entries .exit) ≡ cleared 0 (now (entries .entry)) ⌝ }
 {
     slices::clearing::clear_entries(entries);
     if limits::BODY_LIMIT < body.len() {

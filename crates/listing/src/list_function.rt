@@ -1,7 +1,8 @@
 // Listing one function of an area.
 ghost use mathlib.Core.Path.{_≡_};
 ghost use mathlib.Core.List.{[], _∷_};
-ghost use lib.ListN.{length, replicate};
+ghost use lib.ListN.{length};
+ghost use Rattle.answers.specs.Report.{cleared};
 ghost use Rattle.answers.specs.Outcome.{Ended};
 ghost use Rattle.spec_inputs.specs.Context.{contextFrom};
 ghost use Rattle.spec_listing.specs.Operation as operation;
@@ -71,7 +72,7 @@ pub fn list_function(
     entries: &mut [u32],
 ) -> ListAnswer
     ensures { λ r. ⌜ Ended (operation.listFunction (optionsOf options) (now (sheet .entry)) (now (bytes .entry)) (now (ends .entry)) (areaOf (now (functions .entry)) (now (area .entry)) base) id) (now (out .entry)) (length (now (entries .entry)) ∷ []) (now (out .exit)) (listReport r) ⌝ }
-    ensures { λ _. ⌜ now (entries .exit) ≡ replicate (length (now (entries .entry))) 0 ⌝ }
+    ensures { λ _. ⌜ now (entries .exit) ≡ cleared 0 (now (entries .entry)) ⌝ }
 {
     slices::clearing::clear_entries(entries);
     let mut types = [[0u8; 8]; 256];

@@ -34,7 +34,7 @@ le-behind s at m n b h =
     rw (le-split s at m n h, add-mul-div-left (le (part s at m)) (le (part s (at + m) n)) p, z) (zero-add (le (part s (at + m) n)))
 
 -- m bytes are 8 * m bits
-bytes-bits : (m : ℕ) → 256 ^ m ≡ 2 ^ (8 * m)
+pub bytes-bits : (m : ℕ) → 256 ^ m ≡ 2 ^ (8 * m)
 bytes-bits zero = refl
 bytes-bits (suc m) =
     let e : 8 * suc m ≡ 8 + 8 * m = omega arith in

@@ -1,5 +1,5 @@
 // Numbers in bytes, read from text and printed, and doubles by their bits.
-pub mod io; // little-endian numbers (io.rs)
+pub mod little_endian; // little-endian numbers (io.rs)
 pub mod parse; // numbers read as Rust's u32, i32 and hex
 pub mod print_decimal; // numbers printed in decimal
 pub mod print_double; // a double as it is listed

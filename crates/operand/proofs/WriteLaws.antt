@@ -3,12 +3,13 @@ use mathlib.Core.Path.{_≡_, refl, ap, sym, _∙_}
 use mathlib.Core.Bool.{true}
 use mathlib.Core.List.{[]}
 use Prim.Native.Nat.{ℕ, zero, suc, _+_, _-_, _*_, _/_, _%_, _^_, _≤_, _<_}
-use native.Mathlib.Nat.{pow-suc, one-le-pow, mul-assoc, mod-lt, mod-add-div'}
+use native.Mathlib.Nat.{pow-suc, one-le-pow, pow-le-pow-right, lt-of-lt-of-le, le-div-iff-mul-le, one-mul, div-eq-of-lt, mul-assoc, mod-lt, mod-add-div'}
 use native.Mathlib.Omega.{arith}
 use lib.Dec.{eqb, ltb, leb}
 use lib.ListN.{length, List·getD-eq-default}
-use borrow.Author.Tests.{lt-ltb, le-ltb, ne-eqb, leb-true}
+use borrow.Author.Tests.{lt-ltb, le-ltb, eq-eqb, ne-eqb, leb-true}
 use Rattle.lists.proofs.Tests.{by-leb, both-left}
+use Rattle.numbers.proofs.ByteSums.{bytes-bits}
 use Rattle.spec_numbers.specs.TwosComplement.{extend8}
 use Rattle.spec_numbers.specs.LittleEndian.{leBytes}
 use Rattle.spec_sheet.specs.Types.{widths, widthOf, kindOf}
@@ -32,19 +33,19 @@ pub fitted-misfit : (p : Fitted) → fittedOf p ≡ NoFit → p ≡ noFit
 fitted-misfit (fits m) e = absurd (let z : _≡_ {A = ℕ} 0 1 = cc e in omega arith)
 fitted-misfit noFit e = refl
 
--- a byte less of the number, and a byte less of the room
-pub one-byte-less : (w n : ℕ) → 0 < w → ltb n (256 ^ w) ≡ ltb (n / 256) (256 ^ (w - 1))
-one-byte-less zero n h = absurd (omega arith)
-one-byte-less (suc w) n h =
-    let e : suc w - 1 ≡ w = omega arith in
-    let p : 256 ^ suc w ≡ 256 ^ w * 256 = pow-suc 256 w in
-    rw e
-    (by-leb (256 ^ suc w) n (λ l. le-ltb n (256 ^ suc w) l ∙ sym (le-ltb (n / 256) (256 ^ w) (omega arith)))
-    (λ l. lt-ltb n (256 ^ suc w) l ∙ sym (lt-ltb (n / 256) (256 ^ w) (omega arith))))
+-- a number has at most w bytes where nothing is left when they are shifted out
+pub shifted-out : (w n : ℕ) → eqb (n / 2 ^ (8 * w)) 0 ≡ ltb n (256 ^ w)
+shifted-out w n =
+    let p : 0 < 2 ^ (8 * w) = one-le-pow (8 * w) 2 (omega arith) in
+    rw (bytes-bits w)
+    (by-leb (2 ^ (8 * w)) n
+    (λ l. let m : 1 * 2 ^ (8 * w) ≤ n = rw (one-mul (2 ^ (8 * w))) l in
+    let q : 1 ≤ n / 2 ^ (8 * w) = le-div-iff-mul-le p .1 m in
+    ne-eqb (n / 2 ^ (8 * w)) 0 (λ e. omega (arith, e, q)) ∙ sym (le-ltb n (2 ^ (8 * w)) l))
+    (λ l. eq-eqb (n / 2 ^ (8 * w)) 0 (div-eq-of-lt l) ∙ sym (lt-ltb n (2 ^ (8 * w)) l)))
 
-pub no-byte : (n : ℕ) → ltb n 1 ≡ eqb n 0
-no-byte zero = refl
-no-byte (suc n) = le-ltb (suc n) 1 (omega arith) ∙ sym (ne-eqb (suc n) 0 (λ e. omega arith))
+pub wide-enough : (w n : ℕ) → 8 ≤ w → n < 2 ^ 64 → true ≡ ltb n (256 ^ w)
+wide-enough w n h l = sym (lt-ltb n (256 ^ w) (lt-of-lt-of-le l (pow-le-pow-right {n = 256} (omega arith) h)))
 
 -- past a byte all bits are set
 pub extend-past : (n : ℕ) → 256 ≤ n → extend8 n ≡ 2 ^ 32 - 1

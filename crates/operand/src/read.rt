@@ -12,7 +12,7 @@ pub fn read_operand(code: u8, s: &[u8], at: usize) -> Operand
     requires { ⌜ at + widthOf code ≤ length (now s) ⌝ }
     ensures { λ r. ⌜ (r ≡ operandAt code (now (s .entry)) at) × (r .bits < 256 ^ widthOf code) ⌝ }
 {
-    let bits = numbers::io::read_le(s, at, sheet::operand_types::width(code));
+    let bits = numbers::little_endian::read_le(s, at, sheet::operand_types::width(code));
     let value = value_of(sheet::operand_types::kind(code), bits);
     Operand { value, bits }
 }

@@ -15,17 +15,14 @@ pub enum Fitted {
     NoFit,
 }
 
-// Whether a number has at most w bytes. Division keeps clear of powers, which a u64 does not hold.
+// Whether a number has at most w bytes.
 pub fn fits_in(w: usize, bits: u64) -> bool
     ensures { λ r. ⌜ r ≡ ltb bits (256 ^ w) ⌝ }
 {
-    let mut left = w;
-    let mut rest = bits;
-    while 0 < left {
-        rest /= 256;
-        left -= 1;
+    if 8 <= w {
+        return true;
     }
-    rest == 0
+    bits >> (8 * w) == 0
 }
 
 // Into a register, a number or a string id.

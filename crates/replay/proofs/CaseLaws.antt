@@ -9,7 +9,7 @@ use lib.Dec.{eqb}
 use lib.ListN.{length, take, drop}
 use lib.Seq.{drop-at}
 use Rattle.lists.proofs.Tests.{within-yes, within-low, within-high}
-use Rattle.answers.specs.declared.numbers.Numbers.{Numbers}
+use Rattle.answers.specs.declared.report.Numbers.{Numbers}
 use Rattle.replay.specs.Cases.{Fronted, lentSize, sameAnswer, sheetSize}
 use Rattle.replay.specs.declared.case.Head.{Head}
 use Rattle.replay.proofs.WordLaws.{front-length}

@@ -17,7 +17,7 @@ use Rattle.answers.specs.Report.{Report, success, shortage, written}
 use Rattle.answers.specs.Outcome.{Outcome, Ended, report, outputsAfter, isShort, sizes, exceeds}
 use Rattle.answers.specs.Outcome as outcome
 use Rattle.answers.specs.Numbers.{reportIn}
-use Rattle.answers.specs.declared.numbers.Numbers.{Numbers}
+use Rattle.answers.specs.declared.report.Numbers.{Numbers}
 use Rattle.answers.proofs.OutcomeLaws.{HowEnded, how-ended, same-result, not-refused}
 use Rattle.answers.proofs.OutcomeLaws.HowEnded.{was-refused, was-short, was-whole}
 use Rattle.answers.proofs.OutcomeLaws.Sound.{whole-of}

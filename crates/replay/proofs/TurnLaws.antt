@@ -7,7 +7,7 @@ use native.Mathlib.Omega.{arith}
 use borrow.Author.Tests.{lt-ltb, le-ltb}
 use lib.ListN.{length, replicate}
 use Rattle.lists.specs.Scan.{part}
-use Rattle.answers.specs.declared.numbers.Numbers.{Numbers}
+use Rattle.answers.specs.declared.report.Numbers.{Numbers}
 use Rattle.replay.specs.Cases.{headOf, Reads, sheetSize, lentSize, sameAnswer}
 use Rattle.replay.specs.Cases.Reads.{numbers, nothing, cut}
 use Rattle.replay.specs.Lent.{leftAs}

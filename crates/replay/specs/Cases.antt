@@ -8,7 +8,7 @@ use lib.ListN.{length, drop}
 use Rattle.lists.specs.Choice.{pick, both, within}
 use Rattle.lists.specs.Scan.{part}
 use Rattle.spec_numbers.specs.LittleEndian.{le}
-use Rattle.answers.specs.declared.numbers.Numbers.{Numbers}
+use Rattle.answers.specs.declared.report.Numbers.{Numbers}
 use Rattle.replay.specs.declared.case.Head.{Head}
 use Rattle.replay.specs.declared.case.HeadRead.{HeadRead}
 use Rattle.replay.specs.declared.case.HeadRead.the-variants.{Is, End, Broken}

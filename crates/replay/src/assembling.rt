@@ -10,7 +10,7 @@ ghost use Rattle.replay.specs.Words.{numbersOver};
 ghost use Rattle.replay.specs.Lent.{areClear};
 ghost use Rattle.replay.specs.Performs.{done, ended, assembledFrom, assembled};
 use crate::parts::Performed;
-use numbers::io::read_le;
+use numbers::little_endian::read_le;
 use slices::part::part_of;
 
 // What a word of a label entry holds before a call.

@@ -3,7 +3,7 @@ ghost use mathlib.Core.Path.{_≡_};
 ghost use Prim.Native.Nat.{_<_};
 ghost use Rattle.replay.specs.Cases.{numberAt, Reads, Fronted, PartsRead};
 use libc::STDIN_FILENO;
-use numbers::io::read_le;
+use numbers::little_endian::read_le;
 
 // The numbers in front of a case.
 pub struct Head {

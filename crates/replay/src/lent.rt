@@ -4,8 +4,8 @@ ghost use lib.ListN.{length, replicate};
 ghost use Rattle.lists.specs.Write.{put};
 ghost use Rattle.replay.specs.Words.{numbersOver, bytesOf};
 ghost use Rattle.replay.specs.Lent.{allAre, leftAs};
-use numbers::io::put_le;
-use numbers::io::read_le;
+use numbers::little_endian::put_le;
+use numbers::little_endian::read_le;
 use slices::compare::same_bytes;
 
 // The byte that lent space holds before a call.

@@ -4,10 +4,10 @@ ghost use Rattle.answers.specs.Report.{success};
 ghost use Rattle.replay.specs.Cases.{lentSize, sameAnswer};
 ghost use Rattle.replay.specs.Performs.{done, reported, printed, valued, numberPrinted, inputPrinted, partPerformed};
 use crate::case::Head;
-use answers::numbers::Numbers;
+use answers::report::Numbers;
 use desk_parts::PartNumber;
-use numbers::io::put_le;
-use numbers::io::read_le;
+use numbers::little_endian::put_le;
+use numbers::little_endian::read_le;
 use slices::write::clear;
 
 // The answer, or that label entries are not clear afterwards, or that there is no such operation or the input is not of its

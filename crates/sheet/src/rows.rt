@@ -13,9 +13,7 @@ ghost use Rattle.sheet.specs.Rows.{turnOf, typesStored, infosStored};
 use crate::scan::Step;
 use slices::search::Found;
 
-// Where an opcode's row has its operand count, its jump mark, and the start and length of its name.
-pub const OPERAND_COUNT: usize = 0;
-
+// Where an opcode's row has its jump mark, and the start and length of its name. Its first number is the operand count.
 pub const JUMP_MARK: usize = 1;
 
 pub const NAME_START: usize = 2;

@@ -83,10 +83,7 @@ typeRow o = o .types ++ replicate (8 - length (o .types)) 0
 unfoldable pub infoRow : Op → List ℕ
 infoRow o = length (o .types) ∷ o .jump ∷ o .start ∷ o .size ∷ []
 
--- the four numbers of such a row by their names, and the name that it points to in the text
-abbrev pub operandCount : List ℕ → ℕ
-operandCount row = getD row 0 0
-
+-- the numbers of such a row by their names, and the name that it points to in the text
 abbrev pub jumpMark : List ℕ → ℕ
 jumpMark row = getD row 1 0
 

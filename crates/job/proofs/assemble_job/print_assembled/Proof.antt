@@ -1,6 +1,7 @@
 use mathlib.Core.Path.{sym, _∙_}
 use native.Mathlib.Omega.{arith}
-use Rattle.answers.proofs.NumberLaws.{same-report, same-length as same-length-of}
+use Rattle.answers.proofs.NumberLaws.{same-report}
+use Rattle.job.proofs.AnswerLaws.{length-told}
 use Rattle.job.proofs.PrintLaws.{line-prints, report-print}
 use Rattle.job.proofs.AssembleLaws.{was-text, was-bad-text, text-prints, to-end}
 use borrow.Author.Needs.{needs}
@@ -38,7 +39,7 @@ slice-aggregate-put-answer : tie.Need-slice-aggregate-put-answer
 slice-aggregate-put-answer c = search needs
 
 put-answer-requires : tie.Need-put-answer-requires
-put-answer-requires c κs = (omega (arith, same-length-of (c .before .before .assemble-numbers .ensures), c .before .before .before .before .assemble-inputs .ensures .1, c .before .before .before .before .assemble-inputs .kept), omega (arith, c .before .before .before .before .assemble-inputs .kept))
+put-answer-requires c κs = (omega (arith, length-told (c .before .before .assemble-numbers .ensures), c .before .before .before .before .assemble-inputs .ensures .1, c .before .before .before .before .assemble-inputs .kept), omega (arith, c .before .before .before .before .assemble-inputs .kept))
 
 enum-known-t-2 : tie.Need-enum-known-t-2
 enum-known-t-2 c = search needs

@@ -1,5 +1,6 @@
 use native.Mathlib.Omega.{arith}
-use Rattle.answers.proofs.NumberLaws.{same-report, same-length as same-length-of}
+use Rattle.answers.proofs.NumberLaws.{same-report}
+use Rattle.job.proofs.AnswerLaws.{length-told}
 use Rattle.job.proofs.PrintLaws.{report-print}
 use Rattle.job.proofs.ListLaws.{listing-prints}
 use borrow.Author.Needs.{needs}
@@ -22,7 +23,7 @@ slice-aggregate-put-answer : tie.Need-slice-aggregate-put-answer
 slice-aggregate-put-answer c = search needs
 
 put-answer-requires : tie.Need-put-answer-requires
-put-answer-requires c κs = (omega (arith, same-length-of (c .before .before .list-numbers .ensures), c .before .before .before .before .list-inputs .ensures .1, c .before .before .before .before .list-inputs .kept), omega (arith, c .before .before .before .before .list-inputs .kept))
+put-answer-requires c κs = (omega (arith, length-told (c .before .before .list-numbers .ensures), c .before .before .before .before .list-inputs .ensures .1, c .before .before .before .before .list-inputs .kept), omega (arith, c .before .before .before .before .list-inputs .kept))
 
 same-length : tie.Need-same-length
 same-length c = search needs

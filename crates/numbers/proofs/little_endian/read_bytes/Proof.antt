@@ -8,8 +8,8 @@ use Rattle.lists.specs.Scan.{part}
 use Rattle.lists.proofs.Parts.{bytes-drop}
 use Rattle.spec_numbers.specs.LittleEndian.{le}
 use Rattle.spec_numbers.proofs.ByteLaws.{le-room, le-step}
-use Rattle.numbers.proofs.io.read_bytes.Statement.{statement}
-use Rattle.numbers.proofs.io.read_bytes.Tie as tie
+use Rattle.numbers.proofs.little_endian.read_bytes.Statement.{statement}
+use Rattle.numbers.proofs.little_endian.read_bytes.Tie as tie
 
 abbrev Inv-loop : tie.InvT-loop
 Inv-loop s at n v₀ k₀ v k = (k ≤ n) × (v ≡ le (part s (at + k) (n - k)))

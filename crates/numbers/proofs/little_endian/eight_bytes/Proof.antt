@@ -1,8 +1,8 @@
 use native.Mathlib.Omega.{arith}
 use Rattle.numbers.proofs.ByteSums.{le-split}
 use borrow.Author.Needs.{needs}
-use Rattle.numbers.proofs.io.eight_bytes.Statement.{statement}
-use Rattle.numbers.proofs.io.eight_bytes.Tie as tie
+use Rattle.numbers.proofs.little_endian.eight_bytes.Statement.{statement}
+use Rattle.numbers.proofs.little_endian.eight_bytes.Tie as tie
 
 four-bytes-requires : tie.Need-four-bytes-requires
 four-bytes-requires c κs = search needs

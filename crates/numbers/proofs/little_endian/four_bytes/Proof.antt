@@ -1,8 +1,8 @@
 use native.Mathlib.Omega.{arith}
 use Rattle.numbers.proofs.ByteSums.{le-split}
 use borrow.Author.Needs.{needs}
-use Rattle.numbers.proofs.io.four_bytes.Statement.{statement}
-use Rattle.numbers.proofs.io.four_bytes.Tie as tie
+use Rattle.numbers.proofs.little_endian.four_bytes.Statement.{statement}
+use Rattle.numbers.proofs.little_endian.four_bytes.Tie as tie
 
 two-bytes-requires : tie.Need-two-bytes-requires
 two-bytes-requires c κs = search needs

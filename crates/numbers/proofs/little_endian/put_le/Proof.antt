@@ -8,8 +8,8 @@ use Rattle.lists.specs.Write.{Put, top}
 use Rattle.lists.proofs.Writes.{_then_, same-piece, kept-length, wrote-none}
 use Rattle.spec_numbers.specs.LittleEndian.{leBytes}
 use Rattle.spec_numbers.proofs.ByteLaws.{leBytes-step}
-use Rattle.numbers.proofs.io.put_le.Statement.{statement}
-use Rattle.numbers.proofs.io.put_le.Tie as tie
+use Rattle.numbers.proofs.little_endian.put_le.Statement.{statement}
+use Rattle.numbers.proofs.little_endian.put_le.Tie as tie
 
 abbrev Inv-loop : tie.InvT-loop
 Inv-loop out₀ at w v k₀ left₀ rest₀ out k left rest =

@@ -3,8 +3,8 @@ use Prim.Native.Nat.{_+_, _-_, _*_}
 use native.Mathlib.Omega.{arith}
 use Rattle.numbers.proofs.ByteSums.{le-shifted}
 use borrow.Author.Needs.{needs}
-use Rattle.numbers.proofs.io.read_of_eight.Statement.{statement}
-use Rattle.numbers.proofs.io.read_of_eight.Tie as tie
+use Rattle.numbers.proofs.little_endian.read_of_eight.Statement.{statement}
+use Rattle.numbers.proofs.little_endian.read_of_eight.Tie as tie
 
 mul-half : tie.Need-mul-half
 mul-half c = search needs

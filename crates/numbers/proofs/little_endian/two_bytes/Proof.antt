@@ -2,8 +2,8 @@ use Prim.Native.Nat.{_+_}
 use native.Mathlib.Omega.{arith}
 use Rattle.numbers.proofs.ByteSums.{le-split, le-one}
 use borrow.Author.Needs.{needs}
-use Rattle.numbers.proofs.io.two_bytes.Statement.{statement}
-use Rattle.numbers.proofs.io.two_bytes.Tie as tie
+use Rattle.numbers.proofs.little_endian.two_bytes.Statement.{statement}
+use Rattle.numbers.proofs.little_endian.two_bytes.Tie as tie
 
 shared-slice-read-wide-byte : tie.Need-shared-slice-read-wide-byte
 shared-slice-read-wide-byte c = search needs

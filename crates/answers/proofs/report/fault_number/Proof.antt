@@ -1,8 +1,8 @@
 use mathlib.Core.Path.{ap, sym}
 use Rattle.answers.specs.Refusals.{faultNumber}
 use borrow.Author.Needs.{needs}
-use Rattle.answers.proofs.numbers.fault_number.Statement.{statement}
-use Rattle.answers.proofs.numbers.fault_number.Tie as tie
+use Rattle.answers.proofs.report.fault_number.Statement.{statement}
+use Rattle.answers.proofs.report.fault_number.Tie as tie
 
 enum-told : tie.Need-enum-told
 enum-told c = search needs

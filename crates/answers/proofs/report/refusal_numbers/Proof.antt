@@ -1,8 +1,8 @@
 use Rattle.answers.specs.Refusals.{refusalReport}
 use Rattle.answers.proofs.NumberLaws.{of-case}
 use borrow.Author.Needs.{needs}
-use Rattle.answers.proofs.numbers.refusal_numbers.Statement.{statement}
-use Rattle.answers.proofs.numbers.refusal_numbers.Tie as tie
+use Rattle.answers.proofs.report.refusal_numbers.Statement.{statement}
+use Rattle.answers.proofs.report.refusal_numbers.Tie as tie
 
 enum-known-x : tie.Need-enum-known-x
 enum-known-x c = search needs

@@ -52,7 +52,7 @@ mod parts;
 ghost use mathlib.Core.Path.{_≡_};
 ghost use lib.ListN.{length};
 ghost use Rattle.replay.specs.Cases.{sheetSize};
-ghost use Rattle.replay.specs.Turns.{comparedOn, caseTurn, Tried, Next};
+ghost use Rattle.replay.specs.Turns.{comparedOn, caseTurn, Tried, Next, Replayed};
 use crate::case::Head;
 use crate::case::HeadRead;
 use crate::parts::Performed;
@@ -127,7 +127,7 @@ fn try_case(
     input: &mut [u8],
     expected: &mut [u8],
 ) -> Turn
-    ensures { λ r. ⌜ Tried head used (now (sheet .exit)) (now (input .exit)) (now (expected .exit)) r ⌝ }
+    ensures { λ r. ⌜ Tried head used (now (sheet .entry)) (now (sheet .exit)) (now (input .exit)) (now (expected .exit)) r ⌝ }
 {
     if !crate::case::read_parts(head, sheet, input, expected) {
         return Turn::Stops(Stop::Broken);
@@ -142,7 +142,7 @@ fn try_case(
 
 // The next case.
 fn next_case(used: usize, sheet: &mut [u8], input: &mut [u8], expected: &mut [u8]) -> Turn
-    ensures { λ r. ⌜ Next used (now (sheet .exit)) (now (input .exit)) (now (expected .exit)) r ⌝ }
+    ensures { λ r. ⌜ Next used (now (sheet .entry)) (now (sheet .exit)) (now (input .exit)) (now (expected .exit)) r ⌝ }
 {
     match crate::case::read_head() {
         HeadRead::Is(head) => try_case(head, used, sheet, input, expected),
@@ -161,7 +161,9 @@ fn last_stop() -> Stop {
 }
 
 // All cases.
-fn replay(sheet: &mut [u8], input: &mut [u8], expected: &mut [u8]) -> Outcome {
+fn replay(sheet: &mut [u8], input: &mut [u8], expected: &mut [u8]) -> Outcome
+    ensures { λ r. ⌜ Replayed r ⌝ }
+{
     let mut used: usize = 0;
     let mut n: u64 = 0;
     while n < MOST_CASES {

@@ -52,7 +52,7 @@ returns-2 c =
     let r = s .before .before .before .before .before .before .before .before .before .before in
     let a = r .before .before .before .before .before .before .before .args in
     let left = r .read-parts .last in
-    tried-parts (a .head) (a .used) (left .1 .0) (left .1 .1 .0) (left .1 .1 .1 .0) (s .before .sheet-size .result) _ _ _ (s .before .sheet-size .ensures) (s .part-of .ensures) (i .part-of2 .ensures) (e .part-of3 .ensures) (c .lend .ensures)
+    tried-parts (a .head) (a .used) (a .sheet .now) (left .1 .0) (left .1 .1 .0) (left .1 .1 .1 .0) (r .read-parts .ensures .sheet-kept) (s .before .sheet-size .result) _ _ _ (s .before .sheet-size .ensures) (s .part-of .ensures) (i .part-of2 .ensures) (e .part-of3 .ensures) (c .lend .ensures)
 
 pub try-case-spec : {M : Type 1} → statement M
 try-case-spec =

@@ -50,7 +50,7 @@ pub data Next (used : ℕ) (sheet₀ sheet input expected : List ℕ) (r : Turn)
   cut : r ≡ Stops stop.Broken → Next used sheet₀ sheet input expected r
   tried : (b : List ℕ) → length b ≡ 36 → Tried (headOf b) used sheet₀ sheet input expected r → Next used sheet₀ sheet input expected r
 
--- so many cases agreed, one behind the other; the last one's sheet is the first `used` bytes
+-- so many cases agreed, one behind the other, whatever standard input holds; the last one's sheet is the first `used` bytes
 pub data Agreed : ℕ → ℕ → List ℕ → Type 0 where
   start : (sheet : List ℕ) → Agreed 0 0 sheet
   more : {n used after : ℕ} {sheet₀ sheet : List ℕ} → Agreed n used sheet₀ → (input expected : List ℕ) → Next used sheet₀ sheet input expected (Agrees after) → Agreed (n + 1) after sheet

@@ -1,7 +1,7 @@
 // Reading a case from standard input.
 ghost use mathlib.Core.Path.{_≡_};
 ghost use Prim.Native.Nat.{_<_};
-ghost use Rattle.replay.specs.Cases.{numberAt, Reads, Fronted, PartsRead};
+ghost use Rattle.replay.specs.Cases.{numberAt, headOf, Reads, Fronted, PartsRead};
 use libc::STDIN_FILENO;
 use numbers::little_endian::read_le;
 
@@ -38,6 +38,23 @@ fn size_at(b: &[u8; 36], i: usize) -> usize
     number_at(b, i) as usize
 }
 
+// The numbers in front of a case, by their bytes.
+fn head_of(b: &[u8; 36]) -> Head
+    ensures { λ r. ⌜ r ≡ headOf (now (b .entry)) ⌝ }
+{
+    Head {
+        operation: number_at(b, 0),
+        sheet: size_at(b, 1),
+        input: size_at(b, 2),
+        room: size_at(b, 3),
+        number: number_at(b, 4),
+        place: number_at(b, 5),
+        operand: number_at(b, 6),
+        length: number_at(b, 7),
+        expected: size_at(b, 8),
+    }
+}
+
 // The next case's numbers, or that there is no further case.
 pub fn read_head() -> HeadRead
     ensures { λ r. ⌜ Reads r ⌝ }
@@ -50,17 +67,7 @@ pub fn read_head() -> HeadRead
     if got != 36 {
         return HeadRead::Broken;
     }
-    HeadRead::Is(Head {
-        operation: number_at(&b, 0),
-        sheet: size_at(&b, 1),
-        input: size_at(&b, 2),
-        room: size_at(&b, 3),
-        number: number_at(&b, 4),
-        place: number_at(&b, 5),
-        operand: number_at(&b, 6),
-        length: number_at(&b, 7),
-        expected: size_at(&b, 8),
-    })
+    HeadRead::Is(head_of(&b))
 }
 
 // Reads n bytes to the front of s, and answers whether they fit and were all there.

@@ -30,6 +30,7 @@ fault-some fault.Text = omega arith
 fault-some fault.Number = omega arith
 fault-some fault.Double = omega arith
 fault-some fault.Misfit = omega arith
+fault-some fault.NotCarried = omega arith
 
 pub number-some : (x : Refusal) → 0 < refusalReport x .number
 unfolding refusalReport

@@ -8,7 +8,7 @@ use Rattle.answers.specs.declared.refusal.Refusal.the-variants.{Malforme
 
 -- "6 register token bad", "7 address token bad", "8 distance outside -128 to 127 for Addr8", "9 token opens with a quote and
 -- isn't a quoted string", "10 text not in the string table", "11 unsigned, hex or Imm32 token bad", "12 Double token not of the
--- forms", "15 .. value doesn't fit its operand"
+-- forms", "15 .. value doesn't fit its operand", "16 operand family or width can't be carried, or a string id has no text"
 unfoldable pub faultNumber : OperandFault → ℕ
 faultNumber fault.Register = 6
 faultNumber fault.Address = 7
@@ -18,6 +18,7 @@ faultNumber fault.Text = 10
 faultNumber fault.Number = 11
 faultNumber fault.Double = 12
 faultNumber fault.Misfit = 15
+faultNumber fault.NotCarried = 16
 
 -- "An operand number goes only with 6 to 12, 16 and an operand's 15"
 unfoldable pub refusalReport : Refusal → Report

@@ -11,6 +11,7 @@ pub enum OperandFault {
     Number,
     Double,
     Misfit,
+    NotCarried,
 }
 
 // Each case with its place: a line, an offset or an index; an operand's fault with the operand's number too.

@@ -57,6 +57,7 @@ fn fault_number(fault: OperandFault) -> u64
         OperandFault::Number => 11,
         OperandFault::Double => 12,
         OperandFault::Misfit => 15,
+        OperandFault::NotCarried => 16,
     }
 }
 

@@ -1,8 +1,13 @@
--- Records that stand one behind the other. Assumes nothing.
+-- Where records start, and records that stand one behind the other. Assumes nothing.
 use mathlib.Core.Path.{_≡_}
 use mathlib.Core.List.{List, [], _∷_}
 use Prim.Native.Nat.{ℕ, _+_, _≤_}
 use Rattle.spec_body.specs.Record.{offsetOf, spanOf}
+
+-- the starts of the instructions, and the body's length
+unfoldable pub placesOf : List (List ℕ) → ℕ → List ℕ
+placesOf [] end = end ∷ []
+placesOf (r ∷ rs) end = offsetOf r ∷ placesOf rs end
 
 -- the lengths added up
 unfoldable pub spans : List (List ℕ) → ℕ

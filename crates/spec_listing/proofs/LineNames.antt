@@ -1,42 +1,28 @@
--- The name on a listed line: one of the sheet, which is found again, or "<invalid>". Assumes nothing.
+-- The name on a listed line: one of the sheet, or "<invalid>". Assumes nothing.
 use mathlib.Core.Path.{_≡_, refl}
 use mathlib.Core.Bool.{true}
 use mathlib.Core.List.{List, []}
-use Prim.Native.Nat.{ℕ, _<_}
+use Prim.Native.Nat.{ℕ}
 use native.Mathlib.Omega.{arith}
-use lib.ListN.{take, getD}
-use borrow.Author.Tests.{eq-eqb, ne-eqb, eqb-true}
+use lib.ListN.{getD}
+use borrow.Author.Tests.{eqb-true}
 use Rattle.lists.specs.Scan.{all}
 use Rattle.lists.specs.Text.{text}
-use Rattle.lists.specs.Found.Found.{found}
 use Rattle.lists.proofs.Tests.{by-eqb, within-least, within-most}
 use Rattle.lists.proofs.Scans.{all-weaken}
 use Rattle.spec_sheet.specs.Scan.{isUpper, isLower, isDigit, isNameByte}
-use Rattle.spec_sheet.specs.Sheet.{Sheet, sheetAt, infoRows, findName}
+use Rattle.spec_sheet.specs.Sheet.{Sheet, sheetAt, infoRows}
 use Rattle.spec_sheet.specs.Sheet.SheetRead.{sheet}
-use Rattle.spec_sheet.proofs.NameTextLaws.{NameText, name-text, either-cases}
-use Rattle.spec_sheet.proofs.OwnNameLaws.{rowName, sheet-own-name}
-use Rattle.spec_sheet.proofs.RowLaws.{sheet-name}
-use Rattle.spec_inputs.specs.Context.{Context, nameOf}
+use Rattle.spec_sheet.proofs.NameTextLaws.{NameText, either-cases}
+use Rattle.spec_inputs.specs.Context.{nameOf}
 use Rattle.spec_inputs.specs.Inputs.{contextOf}
+use Rattle.spec_inputs.proofs.NameLaws.{gap-name, sheet-name-text}
 use Rattle.spec_listing.proofs.TokenBytes.{tokenByte, Token, token-digit, token-letter}
 
 -- a name of a sheet, or what stands for a gap
 pub data ListedName (name : List ℕ) : Type 0 where
   named : NameText name → ListedName name
   gap : name ≡ text "<invalid>" → ListedName name
-
--- the name by an opcode's row, whose last number is the length
-module _ (e : Context) (k : ℕ) where
-  -- of a gap
-  pub gap-name : getD (getD (e .infos) k []) 3 0 ≡ 0 → nameOf e k ≡ text "<invalid>"
-  unfolding nameOf
-  gap-name z = rw (eq-eqb _ _ z)
-
-  -- of an opcode of the sheet
-  pub row-name : 0 < getD (getD (e .infos) k []) 3 0 → nameOf e k ≡ rowName (e .sheet) (getD (e .infos) k [])
-  unfolding nameOf
-  row-name h = rw (ne-eqb (getD (getD (e .infos) k []) 3 0) 0 (λ z. omega arith))
 
 -- a letter, digit or underscore is a byte of a token
 name-byte : (b : ℕ) → isNameByte b ≡ true → tokenByte b ≡ true
@@ -56,22 +42,9 @@ pub name-token : (name : List ℕ) → ListedName name → Token name
 name-token name (named n) = record { bytes = all-weaken isNameByte tokenByte name-byte name (n .bytes); some = n .least }
 name-token name (gap e) = rw e invalid-token
 
--- under a sheet that was read, with any string table
-module _ (s : List ℕ) (at : ℕ) (sh : Sheet) (c : ℕ) (e : sheetAt s at ≡ sheet sh c) (bytes ends : List ℕ) (k : ℕ) where
-  abbrev size : ℕ
-  size = getD (getD (infoRows (sh .opcodes)) k []) 3 0
-
-  -- the name of an opcode of the sheet
-  pub sheet-name-text : 0 < size → NameText (nameOf (contextOf s (sh .opcodes) bytes ends) k)
-  sheet-name-text h = rw (row-name (contextOf s (sh .opcodes) bytes ends) k h) (name-text s _ _ (sheet-name s at sh c e k h))
-
-  -- every opcode's
-  pub listed-name : ListedName (nameOf (contextOf s (sh .opcodes) bytes ends) k)
-  listed-name =
-      by-eqb size 0
-      (λ z. gap (gap-name (contextOf s (sh .opcodes) bytes ends) k z))
-      (λ z. named (sheet-name-text (omega (arith, z))))
-
-  -- it is found again, at its opcode
-  pub name-found : (n : ℕ) → k < n → 0 < size → findName s (nameOf (contextOf s (sh .opcodes) bytes ends) k) 0 (take n (infoRows (sh .opcodes))) ≡ found k
-  name-found n l h = rw (row-name (contextOf s (sh .opcodes) bytes ends) k h) (sheet-own-name s at sh c e n k l h)
+-- the name of any opcode of a sheet that was read, with any string table
+pub listed-name : (s : List ℕ) (at : ℕ) (sh : Sheet) (c : ℕ) → sheetAt s at ≡ sheet sh c → (bytes ends : List ℕ) (k : ℕ) → ListedName (nameOf (contextOf s (sh .opcodes) bytes ends) k)
+listed-name s at sh c e bytes ends k =
+    by-eqb (getD (getD (infoRows (sh .opcodes)) k []) 3 0) 0
+    (λ z. gap (gap-name (contextOf s (sh .opcodes) bytes ends) k z))
+    (λ z. named (sheet-name-text s at sh c e bytes ends k (omega (arith, z))))

@@ -8,11 +8,11 @@ use native.Mathlib.Nat.{lt-of-lt-of-le, pow-le-pow-right}
 use native.Mathlib.Omega.{arith}
 use lib.Dec.{eqb, leb}
 use borrow.Author.Tests.{ne-eqb, leb-true}
-use Rattle.lists.proofs.Tests.{by-eqb, by-leb}
+use Rattle.lists.proofs.Tests.{by-leb}
 use Rattle.spec_numbers.specs.TwosComplement.{wrapSub, extend8}
 use Rattle.spec_numbers.proofs.SignedLaws.{distance-back, extend-small, extend-large}
 use Rattle.spec_sheet.specs.Types.{familyOf, widthOf}
-use Rattle.spec_sheet.proofs.TypeLaws.{below, implies, by-codes, family-address, width-most}
+use Rattle.spec_sheet.proofs.TypeLaws.{below, implies, by-codes, by-address, width-most}
 use Rattle.spec_listing.specs.Operand.{distanceOf, targetOf}
 
 -- only a double is wider than four bytes
@@ -38,12 +38,6 @@ extend-bound b h =
 extend-byte : (b : ℕ) → b < 256 → extend8 b % 256 ≡ b
 extend-byte b h =
     by-leb 128 b (λ l. rw (extend-large b l h) (omega arith)) (λ l. rw (extend-small b l) (omega arith))
-
--- the addresses are Addr8 and Addr32
-pub by-address : (P : ℕ → Type 0) (code : ℕ) → familyOf code ≡ 4 → P 9 → P 10 → P code
-by-address P code f nine ten =
-    let r = family-address code f in
-    by-eqb code 9 (λ e. rw e nine) (λ n. let e : code ≡ 10 = omega (arith, r .0, r .1, n) in rw e ten)
 
 module _ (code bits : ℕ) (f : familyOf code ≡ 4) where
   distance-bound : bits < 256 ^ widthOf code → distanceOf code bits < 2 ^ 32

@@ -126,6 +126,12 @@ pub family-address : (c : ℕ) → familyOf c ≡ 4 → (9 ≤ c) × (c ≤ 10)
 unfolding below implies familyOf
 family-address = family-range 4 9 10 (omega arith) refl
 
+-- what holds of both holds of an address
+pub by-address : (P : ℕ → Type 0) (code : ℕ) → familyOf code ≡ 4 → P 9 → P 10 → P code
+by-address P code f nine ten =
+    let r = family-address code f in
+    by-eqb code 9 (λ e. rw e nine) (λ n. let e : code ≡ 10 = omega (arith, r .0, r .1, n) in rw e ten)
+
 -- a family and a width make a type
 pub same-type : (c d : ℕ) → c ≤ 12 → d ≤ 12 → familyOf c ≡ familyOf d → widthOf c ≡ widthOf d → c ≡ d
 unfolding below implies familyOf widthOf

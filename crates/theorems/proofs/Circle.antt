@@ -17,6 +17,7 @@ use Rattle.spec_sheet.proofs.SheetLaws.{whole-sheet}
 use Rattle.spec_strings.specs.Table.{tooLarge, fault}
 use Rattle.spec_body.specs.Decode.{decodeBody}
 use Rattle.spec_body.specs.Decode.Decoded.{decoded}
+use Rattle.spec_body.specs.Starts.{placesOf}
 use Rattle.limits.specs.Limits.{bodyLimit, textLimit}
 use Rattle.spec_body.proofs.DecodeLaws.{Decoding, body-stands}
 use Rattle.spec_body.proofs.SheetTables.{good-sheet}
@@ -31,7 +32,7 @@ use Rattle.spec_hasm.specs.Text.{linesOf}
 use Rattle.spec_hasm.specs.Assemble.{Code, codesFrom, assembleCodes, assembleText, assembleEntries}
 use Rattle.spec_hasm.specs.Assemble.Assembled.{assembled}
 use Rattle.spec_hasm.specs.Operation.{assembleOutcome, assemble}
-use Rattle.theorems.specs.Premises.{default, placesOf, roundTrips}
+use Rattle.theorems.specs.Premises.{default, roundTrips}
 use Rattle.theorems.proofs.PremiseLaws.{places-most}
 use Rattle.theorems.proofs.ListedLines.{listedLines, listing-lines, lines-good}
 use Rattle.theorems.proofs.Codes.{Back, codes-back}

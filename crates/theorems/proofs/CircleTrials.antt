@@ -17,10 +17,11 @@ use Rattle.spec_strings.specs.Plain.{plainByte, plain}
 use Rattle.spec_sheet.specs.Row.{sumBy}
 use Rattle.spec_body.specs.Record.{pairs}
 use Rattle.spec_body.specs.Decode.{prepend, decodeFrom}
+use Rattle.spec_body.specs.Starts.{placesOf}
 use Rattle.spec_inputs.specs.Context.{nameOf, isJump}
 use Rattle.spec_listing.specs.Operand.{distanceOf, targetOf, stringText, operandText, operandTexts}
 use Rattle.spec_listing.specs.Labels.{among, endsFlow, targets, labelsOf, labelOffsets, different}
-use Rattle.theorems.specs.Premises.{default, answers, goodString, goodOperand, goodOperands, goodRecord, goodRecords, placesOf, roundTrips, decodedBack, sheetBack, bodyRoundTrips}
+use Rattle.theorems.specs.Premises.{default, answers, goodString, goodOperand, goodOperands, goodRecord, goodRecords, roundTrips, decodedBack, sheetBack, bodyRoundTrips}
 use Rattle.spec_numbers.specs.Double.{bitsOfWhole, withSign, wholeDigits, readWhole, readHex16, readDouble, infinityText, hexMark}
 use Rattle.spec_strings.specs.Utf8.{afterLead, afterNext, step, utf8From, leadBits, bitsAfter, charsFrom}
 use Rattle.spec_strings.specs.Escape.{meant, unescape, unicode, escape, escapeAll, escapeText, quoted}

@@ -30,7 +30,8 @@ use Rattle.spec_inputs.specs.Inputs.{contextOf}
 use Rattle.spec_listing.proofs.LineShape.{behindName, operandPieces, labelHead, pieces-count}
 use Rattle.spec_listing.proofs.PieceBytes.{Piece}
 use Rattle.spec_listing.proofs.LinePieces.{Every}
-use Rattle.spec_listing.proofs.LineNames.{name-token, sheet-name-text, name-found}
+use Rattle.spec_inputs.proofs.NameLaws.{sheet-name-text, name-found}
+use Rattle.spec_listing.proofs.LineNames.{name-token}
 use Rattle.spec_listing.proofs.LineNames.ListedName.{named}
 use Rattle.spec_listing.proofs.LineOffset.{offset-no-name}
 use Rattle.spec_hasm.specs.Line.{Statement, opcodeNamed}

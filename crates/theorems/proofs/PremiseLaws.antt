@@ -23,9 +23,10 @@ use Rattle.spec_body.proofs.DecodeLaws.Decoding.{ended, more}
 use Rattle.spec_inputs.specs.Context.{Context, nameOf, hasText, textAt}
 use Rattle.spec_listing.specs.Operand.{targetOf}
 use Rattle.spec_body.specs.Record.{offsetOf, opcodeOf, pairsOf}
+use Rattle.spec_body.specs.Starts.{placesOf}
 use Rattle.spec_listing.specs.Labels.{among}
-use Rattle.spec_listing.proofs.LineNames.{gap-name}
-use Rattle.theorems.specs.Premises.{answers, goodString, goodOperand, goodOperands, goodRecord, goodRecords, placesOf}
+use Rattle.spec_inputs.proofs.NameLaws.{gap-name}
+use Rattle.theorems.specs.Premises.{answers, goodString, goodOperand, goodOperands, goodRecord, goodRecords}
 
 answers-found : (id : ℕ) (f : Found) → answers id f ≡ true → f ≡ found id
 unfolding answers

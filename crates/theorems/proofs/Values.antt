@@ -16,12 +16,12 @@ use Rattle.lists.specs.Found.Found.{found}
 use Rattle.lists.proofs.Tests.{by-leb}
 use Rattle.spec_numbers.specs.LittleEndian.{leBytes}
 use Rattle.spec_sheet.specs.Types.{familyOf, widthOf}
-use Rattle.spec_sheet.proofs.TypeLaws.{family-some, family-most}
+use Rattle.spec_sheet.proofs.TypeLaws.{family-some, family-most, by-address}
 use Rattle.spec_strings.specs.Table.{lookup}
 use Rattle.spec_inputs.specs.Context.{Context, textAt}
 use Rattle.spec_listing.specs.Operand.{distanceOf, targetOf, operandText}
 use Rattle.spec_listing.proofs.PieceBytes.{QuotedText, quoted-length, quoted-first, quoted-last}
-use Rattle.spec_listing.proofs.OperandBits.{bits-32, bits-64, by-address, distance-bits, operand-distance, distance-near}
+use Rattle.spec_listing.proofs.OperandBits.{bits-32, bits-64, distance-bits, operand-distance, distance-near}
 use Rattle.spec_listing.proofs.OperandReadBack.{Lettered, Numbered, operand-register, operand-number, operand-text, operand-address, operand-signed, operand-double}
 use Rattle.spec_hasm.specs.Line.{hasHexPrefix}
 use Rattle.spec_hasm.specs.Token.{numberOr, foundOr, registerValue, unsignedValue, isQuoted, unquoted, stringValue, offsetOr, targetIn, isNear, distanceTo, tokenValue}

@@ -20,6 +20,7 @@ use Rattle.spec_inputs.specs.Context.{Context, nameOf, hasText, textAt}
 use Rattle.spec_listing.specs.Options.{Options}
 use Rattle.spec_listing.specs.Operand.{targetOf}
 use Rattle.spec_body.specs.Record.{offsetOf, opcodeOf, pairsOf}
+use Rattle.spec_body.specs.Starts.{placesOf}
 use Rattle.spec_listing.specs.Labels.{among}
 use Rattle.spec_inputs.specs.Inputs.{contextOf}
 
@@ -55,11 +56,6 @@ goodRecord e places r =
 unfoldable pub goodRecords : Context → List ℕ → List (List ℕ) → Bool
 goodRecords e places [] = true
 goodRecords e places (r ∷ rs) = both (goodRecord e places r) (goodRecords e places rs)
-
--- the starts of the instructions, and the body's length
-unfoldable pub placesOf : List (List ℕ) → ℕ → List ℕ
-placesOf [] end = end ∷ []
-placesOf (r ∷ rs) end = offsetOf r ∷ placesOf rs end
 
 -- a body with these records round-trips
 unfoldable pub roundTrips : Context → List ℕ → List (List ℕ) → Bool

@@ -1,0 +1,5 @@
+pub mod Meaning
+pub mod Cases
+pub mod Passes
+pub mod Carry
+pub mod PlainTexts

@@ -33,7 +33,7 @@ use Rattle.spec_body.specs.Starts.{placesOf}
 use Rattle.spec_body.specs.Decode.{Decoded, decodeBody}
 use Rattle.spec_body.specs.Decode.Decoded.{decoded, notDecoded}
 use Rattle.spec_body.proofs.DecodeLaws.{Decoding, body-stands}
-use Rattle.spec_carry.specs.Meaning.{meanings, allMean}
+use Rattle.spec_carry.specs.Meaning.{meanings, meaningsFrom, allMean}
 use Rattle.spec_carry.specs.Cases.{Case, case}
 use Rattle.spec_carry.specs.Passes.{Carrying, oldRow, newRow, movedFrom, firstPass, secondPass, newOperands, newBytes}
 use Rattle.spec_carry.specs.Carry.{Given, sheetCase, inputCases, contextIn, largestIn, from, into, decodedBody, decodeCases, recordsIn, recordsOf, carryingOf, carried, carryCases, carry}
@@ -137,16 +137,9 @@ passed-accepted g p =
       small = ltb-false bodyLimit (length (carried g)) (passed-head (passed-right (second g) last rest));
     }
 
--- the records of the result
+-- the records that the result is decoded to under the second sheet
 abbrev pub carriedRecords : Given → List (List ℕ)
-carriedRecords g = newRecords (carryingOf g) 0 0 (recordsOf g)
-
--- its places are where the instructions were moved to
-pub carried-places : (g : Given) → placesOf (carriedRecords g) (length (carried g)) ≡ carryingOf g .moved
-unfolding carried
-carried-places g =
-    (let q : length (carried g) ≡ 0 + length (carried g) = omega arith in ap (placesOf (carriedRecords g)) q)
-    ∙ result-places (carryingOf g) 0 0 (recordsOf g)
+carriedRecords g = recordsIn (decodeBody (into g .types) (last₂ g) (carried g))
 
 -- what the laws of instructions ask for
 module _ (g : Given) (a : Accepted g) where
@@ -183,20 +176,37 @@ module _ (g : Given) (r : Result) (e : carry g ≡ result r) where
   pub result-is : result r ≡ produced (length (carried g)) (carried g) (length (recordsOf g) ∷ [])
   result-is = sym e ∙ carry-decided g .passed-is-result passed
 
+  was-written : decodeBody (into g .types) (last₂ g) (carried g) ≡ decoded (newRecords (carryingOf g) 0 0 (recordsOf g))
+  unfolding carried
+  was-written = result-decoded (carryingOf g) (last₂ g) (recordsOf g) (known g accepted)
+
+  -- they are those that were written
+  pub carried-records : carriedRecords g ≡ newRecords (carryingOf g) 0 0 (recordsOf g)
+  unfolding recordsIn
+  carried-records = rw was-written
+
+  -- they start where the instructions were moved to
+  pub carried-places : placesOf (carriedRecords g) (length (carried g)) ≡ carryingOf g .moved
+  unfolding carried
+  carried-places =
+      ap (λ (rs : List (List ℕ)). placesOf rs (length (carried g))) carried-records
+      ∙ ((let q : length (carried g) ≡ 0 + length (carried g) = omega arith in ap (placesOf (newRecords (carryingOf g) 0 0 (recordsOf g))) q)
+      ∙ result-places (carryingOf g) 0 0 (recordsOf g))
+
   -- "the result decodes under the second sheet"
   pub carried-decodes : decodeBody (into g .types) (last₂ g) (carried g) ≡ decoded (carriedRecords g)
-  unfolding carried
-  carried-decodes = result-decoded (carryingOf g) (last₂ g) (recordsOf g) (known g accepted)
+  carried-decodes = was-written ∙ sym (ap decoded carried-records)
 
   -- "to as many instructions"
   pub as-many-records : length (carriedRecords g) ≡ length (recordsOf g)
-  as-many-records = new-count (carryingOf g) 0 0 (recordsOf g)
+  as-many-records = ap length carried-records ∙ new-count (carryingOf g) 0 0 (recordsOf g)
 
   -- "instruction by instruction both have the same meaning"
   pub carried-means : Bytes (g .body) → meanings (into g) (length (carried g)) (carriedRecords g) ≡ meanings (from g) (length (g .body)) (recordsOf g)
   carried-means b =
-      rw (carried-places g)
-      (same-meanings (carryingOf g) (rising g accepted) (last₁ g) (last₂ g) (sound₁ g accepted) (sound₂ g accepted) 0 0
+      ap (λ (places : List ℕ). meaningsFrom (into g) places (carriedRecords g)) carried-places
+      ∙ (ap (meaningsFrom (into g) (carryingOf g .moved)) carried-records
+      ∙ same-meanings (carryingOf g) (rising g accepted) (last₁ g) (last₂ g) (sound₁ g accepted) (sound₂ g accepted) 0 0
       (decoding-bounded (from g .types) (last₁ g) (g .body) b (stands g accepted)) refl (accepted .first-passed) (accepted .second-passed))
 
   -- and every operand stands for something

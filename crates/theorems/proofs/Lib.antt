@@ -12,6 +12,8 @@ pub mod Codes
 pub mod Entries
 pub mod Circle
 pub mod ListAssemble
+pub mod CarryBack
+pub mod CarryAssemble
 pub mod CircleTrials
 pub mod Starred
 pub mod AssembleEncode

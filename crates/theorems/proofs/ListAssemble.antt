@@ -23,7 +23,7 @@ use Rattle.answers.specs.Outcome.{Outcome, Result, produced, measured, lent, is
 use Rattle.answers.specs.Outcome.Outcome.{result, refusedWith}
 use Rattle.answers.proofs.OutcomeLaws.{not-refused, with-space, succeeded}
 use Rattle.answers.specs.declared.refusal.Refusal.{Refusal}
-use Rattle.answers.specs.declared.refusal.Refusal.the-variants.{BadString, TooLarge}
+use Rattle.answers.specs.declared.refusal.Refusal.the-variants.{TooLarge}
 use Rattle.spec_inputs.specs.Context.{Context}
 use Rattle.spec_listing.specs.Listing.{Listed, listDecoded}
 use Rattle.spec_listing.specs.Listing.Listed.{listed, notListed}
@@ -106,11 +106,12 @@ list-assemble text bytes ends body r b good e =
     sound (fault bytes ends) _ r g λ none h.
     sheet-back text bytes ends body r b (ltb-false bodyLimit (length body) short) large none (sheetOf text) refl good h
 
--- the text that a listing left in its output
-listing-left : {r : Result} {t : List ℕ} {k n : ℕ} (out : List ℕ) {after : List ℕ} → Shown r t k → r .length ≡ n → after ∷ [] ≡ writtenEach (r .outputs) (out ∷ []) → take n after ≡ t
+-- what an operation left in its one output
+pub output-left : {r : Result} {t need : List ℕ} {n : ℕ} (out : List ℕ) {after : List ℕ} → result r ≡ produced (length t) t need → r .length ≡ n
+    → after ∷ [] ≡ writtenEach (r .outputs) (out ∷ []) → take n after ≡ t
 unfolding writtenEach
-listing-left {r} {t} {k} {n} out {after} s l w =
-    let q : r ≡ record { length = length t; outputs = t ∷ []; entries = k ∷ [] } = cc (s .is-result) in
+output-left {r} {t} {need} {n} out {after} e l w =
+    let q : r ≡ record { length = length t; outputs = t ∷ []; entries = need } = cc e in
     let size : length t ≡ n = sym (ap (λ (x : Result). x .length) q) ∙ l in
     let texts : writtenEach (r .outputs) (out ∷ []) ≡ written t out ∷ [] = ap (λ (x : Result). writtenEach (x .outputs) (out ∷ [])) q in
     let front : after ≡ written t out = cc (w ∙ texts) in
@@ -125,5 +126,5 @@ pub list-assemble-ended : (text bytes ends body out room after : List ℕ) (n : 
 list-assemble-ended text bytes ends body out room after n b good e out₂ room₂ enough =
     let s = succeeded _ out room after n e in
     let k = list-assemble text bytes ends body (s .of) b good (s .is-result) in
-    let t = listing-left out (k .was-listed) (s .counts) (s .left) in
+    let t = output-left out (k .was-listed .is-result) (s .counts) (s .left) in
     with-space _ _ _ _ out₂ room₂ (ap (assemble text bytes ends) t ∙ k .assembles) enough

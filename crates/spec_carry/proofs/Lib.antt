@@ -4,3 +4,4 @@ pub mod ResultLaws
 pub mod ValueLaws
 pub mod MeaningLaws
 pub mod CarryLaws
+pub mod CarryTrials

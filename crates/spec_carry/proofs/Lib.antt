@@ -5,3 +5,5 @@ pub mod ValueLaws
 pub mod MeaningLaws
 pub mod CarryLaws
 pub mod CarryTrials
+pub mod SameLaws
+pub mod ReturnLaws

@@ -153,6 +153,12 @@ module _ (x : Carrying) (rising : Rising x) (last last′ : ℕ) (old : Sound (x
         is-found (opcodeInto (x .from) (x .into) (opcodeOf r)) is-known λ k e.
         rw e (name-kept (x .from) (x .into) last′ sound (opcodeOf r) k e)
 
+    pub has-name : 0 < getD (getD (x .into .infos) (newOpcode (x .from) (x .into) r) []) 3 0
+    unfolding orZero
+    has-name =
+        is-found (opcodeInto (x .from) (x .into) (opcodeOf r)) is-known λ k e.
+        rw e (name-size (x .from) (x .into) last′ sound (opcodeOf r) k e)
+
     pub valid-name : same (nameOf (x .into) (newOpcode (x .from) (x .into) r)) (characters.text "<invalid>") ≡ false
     unfolding orZero
     valid-name =

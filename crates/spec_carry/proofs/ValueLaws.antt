@@ -10,6 +10,8 @@ use Rattle.lists.specs.Choice.{both, within}
 use Rattle.lists.specs.Found.{Found}
 use Rattle.lists.specs.Found.Found.{found, missing}
 use Rattle.lists.proofs.Tests.{by-test, by-leb, by-eqb, both-left, both-right, true-not-false, within-yes, within-least, within-most}
+use Rattle.spec_numbers.specs.LittleEndian.{le, leBytes}
+use Rattle.spec_numbers.proofs.ByteLaws.{le-leBytes}
 use Rattle.spec_sheet.specs.Types.{widthOf, familyOf}
 use Rattle.spec_sheet.specs.Sheet.{isMissing}
 use Rattle.spec_sheet.proofs.TypeLaws.{below, implies, implied, each-below, by-address}
@@ -73,6 +75,11 @@ module _ (x : Carrying) (at new c d bits : ℕ) (good : Good x at new c d bits) 
       is-found (newId x bits) (good .known f) λ k e.
       let h : hasText (x .into) k ≡ true = lt-ltb k (length (x .into .ends)) (lookup-there (textAt (x .from) bits) (x .into .bytes) (x .into .ends) k e) in
       rw (f, g, e, h, good .has-text f, lookup-equal (textAt (x .from) bits) (x .into .bytes) (x .into .ends) k e)
+
+  -- the id that is written is read again
+  pub string-read : familyOf c ≡ 3 → le (leBytes (widthOf d) (newBits x at new c d bits)) ≡ newBits x at new c d bits
+  unfolding newBits
+  string-read f = le-leBytes (widthOf d) (newBits x at new c d bits) (rw f (good .id-fits f))
 
   -- an address: where it lies, and what its distance reaches
   module _ (f : familyOf c ≡ 4) (rising : Rising x) (i : ℕ) (here : getD (x .moved) i 0 ≡ new) where

@@ -3,3 +3,4 @@ pub mod Cases
 pub mod Passes
 pub mod Carry
 pub mod PlainTexts
+pub mod FirstIds

@@ -30,7 +30,7 @@ use Rattle.spec_carry.specs.Passes.{Carrying, orZero, oldRow, newRow, movedFrom
 use Rattle.spec_carry.specs.PlainTexts.{plainOperands, plainTexts}
 use Rattle.spec_carry.proofs.CaseLaws.{Passed, passed-left, passed-right, passed-head, passed-tail}
 use Rattle.spec_carry.proofs.PlaceLaws.{first-inside}
-use Rattle.spec_carry.proofs.ValueLaws.{Rising, Good, good-operand, is-found, near-8, new-small, place-small, place-fits}
+use Rattle.spec_carry.proofs.ValueLaws.{Rising, Good, good-operand, is-found, near-8, new-small, place-small, place-fits, string-read}
 use Rattle.spec_carry.proofs.ResultLaws.{newPairs, newRecords}
 use Rattle.spec_carry.proofs.MeaningLaws.{Within, Sound, first-operands, first-rest, opcode-known, valid-name, second-left, second-right}
 use Rattle.spec_listing.specs.Operand.{distanceOf, targetOf}
@@ -87,13 +87,9 @@ module _ (x : Carrying) (at new c d bits : ℕ) (good : Good x at new c d bits) 
       let p : newPlace x at c bits ≡ getD (x .moved) k 0 = ap (λ (t : Found). getD (x .moved) (orZero t) 0) e in
       rw w (among-at (x .moved) k (targetOf new d (distanceBits (widthOf d) new (newPlace x at c bits))) h (target-is f ∙ p))
 
-  -- an id or a distance that is written is read again
+  -- a distance that is written is read again
   abbrev read : ℕ
   read = le (leBytes (widthOf d) v)
-
-  string-read : familyOf c ≡ 3 → read ≡ v
-  unfolding newBits
-  string-read f = le-leBytes (widthOf d) v (rw f (good .id-fits f))
 
   address-read : familyOf c ≡ 4 → read ≡ v
   unfolding newBits
@@ -103,7 +99,7 @@ module _ (x : Carrying) (at new c d bits : ℕ) (good : Good x at new c d bits) 
   unfolding goodOperand
   operand-back p =
       by-eqb (familyOf c) 3
-      (λ f. let g : familyOf d ≡ 3 = sym (good .family) ∙ f in rw (g, string-read f) (string-back f (rw (g, string-read f) at p)))
+      (λ f. let g : familyOf d ≡ 3 = sym (good .family) ∙ f in rw (g, string-read x at new c d bits good f) (string-back f (rw (g, string-read x at new c d bits good f) at p)))
       λ n. by-eqb (familyOf c) 4
       (λ f. let g : familyOf d ≡ 4 = sym (good .family) ∙ f in rw (g, address-read f) (address-back f))
       (λ m. rw (sym (good .family), ne-eqb (familyOf c) 3 n, ne-eqb (familyOf c) 4 m))

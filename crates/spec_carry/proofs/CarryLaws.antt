@@ -8,7 +8,7 @@ use native.Mathlib.Omega.{arith}
 use lib.Dec.{ltb}
 use lib.ListN.{length, getD, length-append}
 use lib.Seq.{take-all}
-use borrow.Author.Tests.{ltb-false}
+use borrow.Author.Tests.{le-ltb, ltb-false}
 use Rattle.limits.specs.Limits.{bodyLimit}
 use Rattle.lists.specs.Scan.{Bytes, same}
 use Rattle.lists.specs.Text as characters
@@ -26,10 +26,11 @@ use Rattle.spec_sheet.proofs.OwnNameLaws.{sheet-no-name}
 use Rattle.spec_sheet.proofs.SheetLaws.{whole-sheet}
 use Rattle.spec_sheet.proofs.RowLaws.{sheet-type-length, sheet-code-most, info-rows-length, sheet-named-below, sheet-above-least, sheet-above-most}
 use Rattle.spec_inputs.specs.Context.{nameOf}
-use Rattle.spec_inputs.specs.Inputs.{contextOf}
+use Rattle.spec_inputs.specs.Inputs.{contextOf, underSheet}
 use Rattle.spec_inputs.proofs.NameLaws.{sheet-name-text}
-use Rattle.spec_body.specs.Record.{offsetOf, pairsOf}
+use Rattle.spec_body.specs.Record.{offsetOf, pairsOf, join}
 use Rattle.spec_body.specs.Starts.{placesOf}
+use Rattle.spec_body.specs.Operation.{decodeOutcome, decode}
 use Rattle.spec_body.specs.Decode.{Decoded, decodeBody}
 use Rattle.spec_body.specs.Decode.Decoded.{decoded, notDecoded}
 use Rattle.spec_body.proofs.DecodeLaws.{Decoding, body-stands}
@@ -78,6 +79,13 @@ unfolding decodeCases recordsIn
 read-decoded (decoded rs) p = refl
 read-decoded (notDecoded x) p = true-not-false true refl (passed-head p)
 
+-- decoding, as an operation, of a body that is decoded under a sheet that was read
+read-decode : (r : SheetRead) (text bytes ends body : List ℕ) (rs : List (List ℕ)) → sheetOf text ≡ r → sheetCase r .holds ≡ false → length body ≤ bodyLimit
+    → decodeBody (contextIn r text bytes ends .types) (largestIn r) body ≡ decoded rs → decode text body ≡ produced (length rs) (join rs) []
+unfolding sheetCase contextIn largestIn decode underSheet decodeOutcome
+read-decode (sheet sh at) text bytes ends body rs e h l d = rw (le-ltb bodyLimit (length body) l, e, d)
+read-decode (malformed line) text bytes ends body rs e h l d = true-not-false true refl h
+
 -- no new place is past the result's length
 moved-most : (x : Carrying) (at i : ℕ) (rs : List (List ℕ)) (k : ℕ) → getD (movedFrom (x .from) (x .into) at rs) k 0 ≤ at + length (newBytes x i rs)
 unfolding movedFrom newBytes
@@ -112,6 +120,7 @@ carry-decided g =
 
 -- what the cases say where none holds
 pub record Accepted (g : Given) : Type 0 where
+  pub short : length (g .body) ≤ bodyLimit
   pub read₁ : sheetCase (sheetOf (g .sheet₁)) .holds ≡ false
   pub read₂ : sheetCase (sheetOf (g .sheet₂)) .holds ≡ false
   pub was-decoded : decodedBody g ≡ decoded (recordsOf g)
@@ -129,6 +138,7 @@ passed-accepted g p =
     let passes : Passed (first g ++ (second g ++ last)) = passed-right (decodeCases (decodedBody g)) (first g ++ (second g ++ last)) all in
     let rest : Passed (second g ++ last) = passed-right (first g) (second g ++ last) passes in
     record {
+      short = ltb-false bodyLimit (length (g .body)) (passed-head (passed-left (inputCases g) (carryCases g) p));
       read₁ = passed-head sheets;
       read₂ = passed-head (passed-tail sheets);
       was-decoded = read-decoded (decodedBody g) (passed-left (decodeCases (decodedBody g)) (first g ++ (second g ++ last)) all);
@@ -200,6 +210,16 @@ module _ (g : Given) (r : Result) (e : carry g ≡ result r) where
   -- "to as many instructions"
   pub as-many-records : length (carriedRecords g) ≡ length (recordsOf g)
   as-many-records = ap length carried-records ∙ new-count (carryingOf g) 0 0 (recordsOf g)
+
+  -- the same of decoding as an operation, of the body and of the result
+  pub body-decode : decode (g .sheet₁) (g .body) ≡ produced (length (recordsOf g)) (join (recordsOf g)) []
+  body-decode =
+      read-decode (sheetOf (g .sheet₁)) (g .sheet₁) (g .bytes₁) (g .ends₁) (g .body) (recordsOf g) refl (accepted .read₁) (accepted .short) (accepted .was-decoded)
+
+  pub carried-decode : decode (g .sheet₂) (carried g) ≡ produced (length (recordsOf g)) (join (carriedRecords g)) []
+  carried-decode =
+      read-decode (sheetOf (g .sheet₂)) (g .sheet₂) (g .bytes₂) (g .ends₂) (carried g) (carriedRecords g) refl (accepted .read₂) (accepted .small) carried-decodes
+      ∙ ap (λ (n : ℕ). produced n (join (carriedRecords g)) []) as-many-records
 
   -- "instruction by instruction both have the same meaning"
   pub carried-means : Bytes (g .body) → meanings (into g) (length (carried g)) (carriedRecords g) ≡ meanings (from g) (length (g .body)) (recordsOf g)

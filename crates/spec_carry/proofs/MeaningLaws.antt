@@ -74,9 +74,11 @@ module _ (x : Carrying) (rising : Rising x) (i at : ℕ) where
   abbrev new : ℕ
   new = getD (x .moved) i 0
 
+  -- code 0 alone has family 0
   same-end : (d : ℕ) → d ≤ 12 → familyOf 0 ≡ familyOf d → d ≡ 0
   same-end d l f = by-leb d 0 (λ h. omega arith) (λ h. absurd (omega (arith, family-some d h l, family-none)))
 
+  -- both rows at once; new is where the instruction stands now
   same-operands : (q : ℕ) (cs ds ps : List ℕ) → length cs ≡ length ds → ((j : ℕ) → getD cs j 0 ≤ 12) → ((j : ℕ) → getD ds j 0 ≤ 12) → Bounded cs ps
       → Passed (operandsCases x i at q cs ds ps) → Passed (farCases x i at q cs ds ps)
       → operandsOf (x .into) (x .moved) new ds (newPairs x at new cs ds ps) ≡ operandsOf (x .from) (x .places) at cs ps
@@ -102,7 +104,7 @@ module _ (x : Carrying) (rising : Rising x) (i at : ℕ) where
         same-operands (suc q) cs ds (drop 2 ps) (omega arith) (λ j. small (suc j)) (λ j. small′ (suc j)) bs (passed-right cases _ p) (passed-tail f),
       ))
 
-  -- every operand means something
+  -- every operand stands for something
   operands-some : (q : ℕ) (cs ds ps : List ℕ) → Passed (operandsCases x i at q cs ds ps) → Passed (farCases x i at q cs ds ps) → allSome (operandsOf (x .from) (x .places) at cs ps) ≡ true
   unfolding operandsOf operandsCases farCases allSome
   operands-some q [] ds ps p f = refl

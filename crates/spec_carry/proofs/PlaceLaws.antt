@@ -17,6 +17,7 @@ use Rattle.spec_carry.specs.Passes.{distanceBits, movedFrom, newRow}
 
 -- a search
 module _ (p : ℕ → Bool) where
+  -- the first place that passes is found
   pub first-is : (xs : List ℕ) (b k : ℕ) → k < length xs → p (getD xs k 0) ≡ true → ((j : ℕ) → j < k → p (getD xs j 0) ≡ false) → firstPlace p b xs ≡ found (b + k)
   unfolding firstPlace
   first-is [] b k h t f = absurd (omega arith)
@@ -25,6 +26,7 @@ module _ (p : ℕ → Bool) where
       let z : p x ≡ false = f 0 (omega arith) in
       rw z (first-is xs (suc b) k (omega arith) t (λ j l. f (suc j) (omega arith)) ∙ ap found (omega arith))
 
+  -- what is found is one of the places
   pub first-inside : (xs : List ℕ) (b k : ℕ) → firstPlace p b xs ≡ found k → k < b + length xs
   unfolding firstPlace
   first-inside [] b k e = absurd (let z : _≡_ {A = ℕ} 0 1 = cc e in omega arith)
@@ -32,6 +34,26 @@ module _ (p : ℕ → Bool) where
       by-test (p x)
       (λ h. let q : b ≡ k = cc (rw h at e) in omega arith)
       (λ h. omega (arith, first-inside xs (suc b) k (rw h at e)))
+
+  -- it is not before the first number counted
+  first-least : (xs : List ℕ) (b k : ℕ) → firstPlace p b xs ≡ found k → b ≤ k
+  unfolding firstPlace
+  first-least [] b k e = absurd (let z : _≡_ {A = ℕ} 0 1 = cc e in omega arith)
+  first-least (x ∷ xs) b k e =
+      by-test (p x)
+      (λ h. let q : b ≡ k = cc (rw h at e) in omega arith)
+      (λ h. omega (arith, first-least xs (suc b) k (rw h at e)))
+
+  -- and passes the test
+  pub first-passes : (xs : List ℕ) (b k : ℕ) → firstPlace p b xs ≡ found k → p (getD xs (k - b) 0) ≡ true
+  unfolding firstPlace
+  first-passes [] b k e = absurd (let z : _≡_ {A = ℕ} 0 1 = cc e in omega arith)
+  first-passes (x ∷ xs) b k e =
+      by-test (p x)
+      (λ h. let q : b ≡ k = cc (rw h at e) in let z : k - b ≡ 0 = omega arith in rw z h)
+      (λ h. let f : firstPlace p (suc b) xs ≡ found k = rw h at e in
+      let z : k - b ≡ suc (k - suc b) = omega (arith, first-least xs (suc b) k f) in
+      rw z (first-passes xs (suc b) k f))
 
 -- the old places and the new ones: as many, and the new ones rise
 pub places-count : (rs : List (List ℕ)) (end : ℕ) → length (placesOf rs end) ≡ suc (length rs)
@@ -45,6 +67,7 @@ module _ (from into : Context) where
   moved-count at [] = refl
   moved-count at (r ∷ rs) = ap suc (moved-count (at + lengthOf (newRow from into r)) rs)
 
+  -- each instruction has a byte at least
   pub moved-least : (at : ℕ) (rs : List (List ℕ)) (k : ℕ) → k ≤ length rs → at + k ≤ getD (movedFrom from into at rs) k 0
   unfolding movedFrom
   moved-least at [] zero h = omega arith
@@ -59,7 +82,7 @@ module _ (from into : Context) where
   moved-rise at (r ∷ rs) zero (suc k) h l = omega (arith, moved-least (at + lengthOf (newRow from into r)) rs k (omega arith))
   moved-rise at (r ∷ rs) (suc j) (suc k) h l = moved-rise (at + lengthOf (newRow from into r)) rs j k (omega arith) (omega arith)
 
--- tests of shifted numbers
+-- both numbers of a test less the same
 eqb-shift : (a b p q m : ℕ) → a ≡ p + m → b ≡ q + m → eqb a b ≡ eqb p q
 eqb-shift a b p q m e f =
     by-eqb p q

@@ -53,6 +53,7 @@ module _ (x : Carrying) where
       omega (arith, length-append (leBytes (widthOf d) v) (newOperands x at new (drop 1 cs) ds (drop 2 ps)), length-leBytes (widthOf d) v, operands-length at new (drop 1 cs) ds (drop 2 ps))
 
   module _ (s : List ℕ) where
+    -- operands that stand in a body are read as their pairs
     operands-read : (at new : ℕ) (cs ds ps : List ℕ) (p : ℕ) (post : List ℕ) → drop p s ≡ newOperands x at new cs ds ps ++ post → pairs ds s p ≡ newPairs x at new cs ds ps
     unfolding newOperands newPairs pairs
     operands-read at new cs [] ps p post e = refl
@@ -107,6 +108,7 @@ module _ (x : Carrying) where
           let y : Decoding (x .into .types) last s at (recordOf (rowAt (x .into .types) s at) s at ∷ rs) = more h l n z in
           rw record-read at y
 
+    -- instructions that stand in a body are decoded to their records
     decoding-new : (last : ℕ) {rs : List (List ℕ)} → Known x last rs → (i at : ℕ) → drop at s ≡ newBytes x i rs → Decoding (x .into .types) last s at (newRecords x at i rs)
     unfolding newBytes newRecords
     decoding-new last none i at e =

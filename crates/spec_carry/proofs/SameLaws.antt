@@ -1,7 +1,7 @@
 -- Bodies that mean the same under one sheet and table are the same, where their string ids are the first of their texts. Assumes
 -- nothing.
 use mathlib.Core.Path.{_≡_, refl, ap, sym, _∙_}
-use mathlib.Core.Bool.{Bool, true, false}
+use mathlib.Core.Bool.{true, false}
 use mathlib.Core.List.{List, [], _∷_, _++_}
 use Prim.Native.Nat.{ℕ, zero, suc, _+_, _-_, _*_, _^_, _≤_, _<_}
 use native.Mathlib.Omega.{arith}
@@ -14,7 +14,7 @@ use Rattle.lists.specs.Choice.{pick, both}
 use Rattle.lists.specs.Scan.{Bytes, part}
 use Rattle.lists.specs.Text as characters
 use Rattle.lists.proofs.Scans.{same-refl}
-use Rattle.lists.proofs.Tests.{by-test, by-leb, by-eqb, both-left, both-right, true-not-false}
+use Rattle.lists.proofs.Tests.{by-leb, by-eqb, both-left, both-right, true-not-false}
 use Rattle.spec_numbers.specs.LittleEndian.{le}
 use Rattle.spec_sheet.specs.Types.{widthOf, familyOf, kindOf}
 use Rattle.spec_sheet.specs.Row.{lengthOf, countOf}
@@ -35,31 +35,12 @@ use Rattle.spec_body.proofs.DecodeLaws.{Decoding, body-stands}
 use Rattle.spec_body.proofs.DecodeLaws.Decoding.{ended, more}
 use Rattle.spec_body.proofs.ReencodeLaws.{part-below, reencoded}
 use Rattle.spec_body.proofs.RowLaws.{GoodRow, GoodRows}
-use Rattle.spec_carry.specs.Meaning.{reaches, firstPlace, targetIn, Value, targetValue, Operand, valueOf, operandsOf, Meaning, meaningOf, meaningsFrom, meanings, isSome, allSome, allMean}
+use Rattle.spec_carry.specs.Meaning.{reaches, targetIn, Value, targetValue, Operand, valueOf, operandsOf, Meaning, meaningOf, meaningsFrom, meanings, isSome, allSome, allMean}
 use Rattle.spec_carry.specs.Meaning.Value.{number, text}
 use Rattle.spec_carry.specs.Passes.{orZero}
 use Rattle.spec_carry.specs.FirstIds.{isFirstId, firstOperands, firstIds}
+use Rattle.spec_carry.proofs.PlaceLaws.{first-passes}
 use Rattle.spec_carry.proofs.MeaningLaws.{Sound}
-
--- a place that is found passes the test
-module _ (p : ℕ → Bool) where
-  first-least : (xs : List ℕ) (b k : ℕ) → firstPlace p b xs ≡ found k → b ≤ k
-  unfolding firstPlace
-  first-least [] b k e = absurd (let z : _≡_ {A = ℕ} 0 1 = cc e in omega arith)
-  first-least (x ∷ xs) b k e =
-      by-test (p x)
-      (λ h. let q : b ≡ k = cc (rw h at e) in omega arith)
-      (λ h. omega (arith, first-least xs (suc b) k (rw h at e)))
-
-  first-passes : (xs : List ℕ) (b k : ℕ) → firstPlace p b xs ≡ found k → p (getD xs (k - b) 0) ≡ true
-  unfolding firstPlace
-  first-passes [] b k e = absurd (let z : _≡_ {A = ℕ} 0 1 = cc e in omega arith)
-  first-passes (x ∷ xs) b k e =
-      by-test (p x)
-      (λ h. let q : b ≡ k = cc (rw h at e) in let z : k - b ≡ 0 = omega arith in rw z h)
-      (λ h. let f : firstPlace p (suc b) xs ≡ found k = rw h at e in
-      let z : k - b ≡ suc (k - suc b) = omega (arith, first-least xs (suc b) k f) in
-      rw z (first-passes xs (suc b) k f))
 
 -- distances of w bytes to one place are the same; h is half the numbers of w bytes
 one-distance : (w h at p a b : ℕ) → 2 ^ (8 * w - 1) ≡ h → 2 ^ (8 * w) ≡ h + h → a < h + h → b < h + h → reaches w at a p ≡ true → reaches w at b p ≡ true → a ≡ b

@@ -32,6 +32,7 @@ both-false : (a b : Bool) → both a b ≡ false → a ≡ true → b ≡ false
 both-false true b e t = e
 both-false false b e t = true-not-false false t refl
 
+-- a search that does not miss
 pub is-found : {P : Type 0} (f : Found) → isMissing f ≡ false → ((k : ℕ) → f ≡ found k → P) → P
 unfolding isMissing
 is-found (found k) e then = then k refl
@@ -53,6 +54,7 @@ pub record Good (x : Carrying) (at new c d bits : ℕ) : Type 0 where
   pub aimed : familyOf c ≡ 4 → isMissing (oldTarget x at c bits) ≡ false
   pub reach : d ≡ 9 → near new (newPlace x at c bits) ≡ true
 
+-- i, at, q: the instruction, its old offset, the operand; new: its new offset
 pub good-operand : (x : Carrying) (i at q new c d bits : ℕ) → Passed (operandCases x i at q c d bits) → both (eqb d 9) (not (near new (newPlace x at c bits))) ≡ false → Good x at new c d bits
 unfolding operandCases
 good-operand x i at q new c d bits (one a (one b (one e (one f (one g (one h none)))))) k =
@@ -67,7 +69,7 @@ good-operand x i at q new c d bits (one a (one b (one e (one f (one g (one h non
     }
 
 module _ (x : Carrying) (at new c d bits : ℕ) (good : Good x at new c d bits) where
-  -- a string
+  -- a string has the text
   string-value : familyOf c ≡ 3 → valueOf (x .into) (x .moved) new d (newBits x at new c d bits) ≡ valueOf (x .from) (x .places) at c bits
   unfolding valueOf newBits orZero
   string-value f =
@@ -92,12 +94,14 @@ module _ (x : Carrying) (at new c d bits : ℕ) (good : Good x at new c d bits) 
     pub place-small : place ≤ 65536
     place-small = rising .small (orZero (oldTarget x at c bits))
 
+    -- an Addr8 is near
     pub near-8 : d ≡ 9 → (new ≤ place + 128) × (place < new + 128)
     unfolding near
     near-8 e =
         let n = good .reach e in
         (leb-true new (place + 128) (both-left _ _ n), (let m = leb-true place (new + 127) (both-right (leb new (place + 128)) _ n) in omega arith))
 
+    -- the distance reaches the place and no other
     pub reaches-place : (q : ℕ) → reaches (widthOf d) new (distanceBits (widthOf d) new place) q ≡ eqb place q
     reaches-place q =
         by-address (λ e. (d ≡ e) → reaches (widthOf e) new (distanceBits (widthOf e) new place) q ≡ eqb place q) d (sym (good .family) ∙ f)
@@ -112,6 +116,7 @@ module _ (x : Carrying) (at new c d bits : ℕ) (good : Good x at new c d bits) 
         (λ e. unfold widthOf in distance-fits 4 (2 ^ 31) new place refl refl (omega arith) (omega (arith, new-small)) (omega (arith, place-small)))
         refl
 
+    -- so the index of the target is kept
     address-target : (k : ℕ) → oldTarget x at c bits ≡ found k → targetIn (x .moved) (widthOf d) new (distanceBits (widthOf d) new place) ≡ found k
     unfolding orZero
     address-target k e =
@@ -171,7 +176,7 @@ module _ (x : Carrying) (at new c d bits : ℕ) (good : Good x at new c d bits) 
         by-eqb (familyOf c) 4 (λ f. rw f (place-fits f rising i here)) λ m.
         other-fits n m
 
-  -- and it means something
+  -- and it stands for something
   pub value-some : isSome (valueOf (x .from) (x .places) at c bits) ≡ true
   unfolding isSome valueOf targetValue
   value-some =

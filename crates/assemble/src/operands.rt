@@ -3,9 +3,6 @@ ghost use Prim.Native.Nat.{_^_, _≤_, _<_, _+_, min};
 ghost use mathlib.Core.Path.{_≡_};
 ghost use lib.ListN.{length};
 ghost use Rattle.limits.specs.Limits.{lineLimit};
-ghost use Rattle.lists.specs.Write.{Put};
-ghost use Rattle.spec_numbers.specs.LittleEndian.{leBytes};
-ghost use Rattle.spec_sheet.specs.Types.{widthOf};
 ghost use Rattle.spec_hasm.specs.Split.{splitOutside, tokens};
 ghost use Rattle.spec_hasm.specs.Assemble.{operandsFrom};
 ghost use Rattle.strings.specs.Keys.{TextsIndexed};
@@ -16,7 +13,6 @@ use crate::token_operand::operand_value;
 use answers::refusal::OperandFault;
 use hasm_labels::label_entry::Slot;
 use hasm_tokens::number_token::Value;
-use operand::write::Fitted;
 
 // The next place in the output, or what is wrong with an operand, and which one, counted from 1.
 pub enum Operands {
@@ -36,19 +32,6 @@ fn behind_comma(end: usize, size: usize) -> usize
     ensures { λ r. ⌜ r ≡ min (end + 1) size ⌝ }
 {
     if end < size { end + 1 } else { size }
-}
-
-// Writes a token's number as an operand of a type: as a value of the type's kind, which is what encoding writes. What is no
-// type has no bytes.
-fn put_value(out: &mut [u8], k: usize, code: u8, bits: u64) -> usize
-    ensures { λ r. ⌜ Put (now (out .entry)) k (leBytes (widthOf code) bits) (now (out .exit)) r ⌝ }
-{
-    let value = operand::value::value_of(sheet::operand_types::kind(code), bits);
-    let fitted = operand::write::write_operand(code, value, bits);
-    let Fitted::Bits(n) = fitted else {
-        return k;
-    };
-    numbers::little_endian::put_le(out, k, sheet::operand_types::width(code), n)
 }
 
 // Writes the operands that stand in s, whose types are the row's, from `place` on.
@@ -102,7 +85,7 @@ pub(crate) fn put_operands(
         );
         match v {
             Value::Bits(bits) => {
-                n = put_value(out, n, code, bits);
+                n = operand::write::put_value(out, n, code, bits);
             }
             Value::Refused(fault) => {
                 return Operands::Refused(fault, i + 1);

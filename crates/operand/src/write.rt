@@ -2,12 +2,16 @@
 ghost use mathlib.Core.Path.{_≡_};
 ghost use Prim.Native.Nat.{_^_};
 ghost use lib.Dec.{ltb};
+ghost use Rattle.lists.specs.Write.{Put};
+ghost use Rattle.spec_numbers.specs.LittleEndian.{leBytes};
 ghost use Rattle.spec_numbers.specs.TwosComplement.{extend8};
+ghost use Rattle.spec_sheet.specs.Types.{widthOf};
 ghost use Rattle.spec_body.specs.Encode.{encodeUnsigned, encodeAddr8, encodeSigned32, encodeDouble, encodeOperand};
 ghost use Rattle.operand.specs.Write.{writeOperand, fittedOf};
 use crate::value::OperandValue;
 use crate::value::bits_of;
 use crate::value::kind_of;
+use crate::value::value_of;
 
 // The number of an operand, or that the value does not fit its type.
 pub enum Fitted {
@@ -115,4 +119,16 @@ pub fn write_operand(code: u8, v: OperandValue, beside: u64) -> Fitted
     ensures { λ r. ⌜ r ≡ fittedOf (writeOperand code v beside) ⌝ }
 {
     encode_number(code, kind_of(v), bits_of(v, beside))
+}
+
+// Writes a number as an operand of a type, as a value of the type's kind: its low bytes. What is no type has none.
+pub fn put_value(out: &mut [u8], k: usize, code: u8, bits: u64) -> usize
+    ensures { λ r. ⌜ Put (now (out .entry)) k (leBytes (widthOf code) bits) (now (out .exit)) r ⌝ }
+{
+    let value = value_of(sheet::operand_types::kind(code), bits);
+    let fitted = write_operand(code, value, bits);
+    let Fitted::Bits(n) = fitted else {
+        return k;
+    };
+    numbers::little_endian::put_le(out, k, sheet::operand_types::width(code), n)
 }

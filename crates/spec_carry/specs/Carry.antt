@@ -37,18 +37,21 @@ unfoldable pub sheetCase : SheetRead → Case
 sheetCase (sheet sh at) = case false (Malformed 0)
 sheetCase (malformed line) = case true (Malformed line)
 
--- "18 of inputs (body or text, then each table's strings, then its bytes), 17 (first table, then second, each by entry), 1 (first
--- sheet, then second)"
+-- "18 of inputs (body or text, then each table's strings, then its bytes), 17 (first table, then second, each by entry)"
+abbrev pub tableCases : List ℕ → List ℕ → List ℕ → List ℕ → List ℕ → List Case
+tableCases body bytes₁ ends₁ bytes₂ ends₂ =
+    case (ltb bodyLimit (length body)) TooLarge
+    ∷ case (tooLarge bytes₁ ends₁) TooLarge
+    ∷ case (tooLarge bytes₂ ends₂) TooLarge
+    ∷ faultCase bytes₁ ends₁
+    ∷ faultCase bytes₂ ends₂
+    ∷ []
+
+-- then "1 (first sheet, then second)"
 unfoldable pub inputCases : Given → List Case
 inputCases g =
-    case (ltb bodyLimit (length (g .body))) TooLarge
-    ∷ case (tooLarge (g .bytes₁) (g .ends₁)) TooLarge
-    ∷ case (tooLarge (g .bytes₂) (g .ends₂)) TooLarge
-    ∷ faultCase (g .bytes₁) (g .ends₁)
-    ∷ faultCase (g .bytes₂) (g .ends₂)
-    ∷ sheetCase (sheetOf (g .sheet₁))
-    ∷ sheetCase (sheetOf (g .sheet₂))
-    ∷ []
+    tableCases (g .body) (g .bytes₁) (g .ends₁) (g .bytes₂) (g .ends₂)
+    ++ (sheetCase (sheetOf (g .sheet₁)) ∷ sheetCase (sheetOf (g .sheet₂)) ∷ [])
 
 -- the context of a sheet and a string table; of a malformed sheet one without opcodes, which is never looked at
 unfoldable pub contextIn : SheetRead → List ℕ → List ℕ → List ℕ → Context
@@ -102,3 +105,12 @@ carryCases g =
 -- instruction"
 unfoldable pub carry : Given → Outcome
 carry g = unlessCase (inputCases g ++ carryCases g) (produced (length (carried g)) (carried g) (length (recordsOf g) ∷ []))
+
+-- the same behind the inputs' cases, under two contexts and the first one's largest opcode
+abbrev pub carryUnder : Context → Context → ℕ → List ℕ → Outcome
+carryUnder a b last body =
+    let d = decodeBody (a .types) last body in
+    let rs = recordsIn d in
+    let x = carrying a b (length body) rs in
+    let bs = newBytes x 0 rs in
+    unlessCase (decodeCases d ++ (firstPass x 0 rs ++ (secondPass x 0 rs ++ (case (ltb bodyLimit (length bs)) TooLarge ∷ [])))) (produced (length bs) bs (length rs ∷ []))

@@ -21,7 +21,7 @@ fn start_of(ends: &[u32], id: usize) -> usize
 }
 
 // The text of an id.
-fn text_of<'a>(bytes: &'a [u8], ends: &[u32], id: usize) -> &'a [u8]
+pub fn text_of<'a>(bytes: &'a [u8], ends: &[u32], id: usize) -> &'a [u8]
     requires { ⌜ id < length (now ends) ⌝ }
     ensures { λ r. ⌜ now r ≡ textOf (now (bytes .entry)) (now (ends .entry)) id ⌝ }
 {

@@ -2,11 +2,11 @@ use mathlib.Core.Path.{_≡_, ap, sym, _∙_}
 use Prim.Native.Nat.{ℕ, _<_, _^_}
 use native.Mathlib.Omega.{arith}
 use Rattle.lists.proofs.Writes.{wrote-none, same-piece}
 use Rattle.operand.specs.Value.{valueOf}
 use Rattle.operand.proofs.WriteLaws.{fitted-bits, fitted-misfit, written-low, written-none}
 use borrow.Author.Needs.{needs}
-use Rattle.assemble.proofs.operands.put_value.Statement.{statement}
-use Rattle.assemble.proofs.operands.put_value.Tie as tie
+use Rattle.operand.proofs.write.put_value.Statement.{statement}
+use Rattle.operand.proofs.write.put_value.Tie as tie
 
 kind-requires : tie.Need-kind-requires
 kind-requires c κs = search needs

@@ -1,0 +1,16 @@
+pub mod OpcodeLaws
+pub mod IdLaws
+pub mod PlaceLaws
+pub mod PlaceLoop
+pub mod TargetLaws
+pub mod CheckLaws
+pub mod FirstLaws
+pub mod FirstLoop
+pub mod WriteLaws
+pub mod SecondLaws
+pub mod SecondLoop
+pub mod InputLaws
+pub mod TableLaws
+pub mod BodyLaws
+pub mod PassLaws
+pub mod CarryEnds

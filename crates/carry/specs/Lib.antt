@@ -1,0 +1,10 @@
+pub mod Opcodes
+pub mod Ids
+pub mod Places
+pub mod Checks
+pub mod Ready
+pub mod Passed
+pub mod Writes
+pub mod Inputs
+pub mod Prepared
+pub mod Answers

@@ -4,7 +4,8 @@
  * The caller's duties, which no proof sees: each pointer is valid for its count and aligned for its type; a buffer that is
  * written (out, entries, labels) overlaps no other buffer of the call; nothing else touches the buffers during the call.
  * There is no state between calls and no allocation. A call uses its thread's stack: decoding and encoding some 12 KiB,
- * listing and assembling some 600 KiB, whatever the inputs are (measured up to their limits, docs/SPEED.md has the figures).
+ * listing and assembling some 600 KiB, carrying some 800 KiB, whatever the inputs are (measured up to their limits,
+ * docs/SPEED.md has the figures).
  *
  * Each function answers four numbers. After success number, place and operand are 0 and length counts what was written.
  * After a refusal number says why (README.md has the table), place where, operand which (from 1, 0 for none), and length
@@ -76,6 +77,15 @@ struct desk_answer desk_list_module(const uint8_t *sheet, size_t sheet_len, cons
 struct desk_answer desk_assemble(const uint8_t *sheet, size_t sheet_len, const uint8_t *bytes, size_t bytes_len,
                                  const uint32_t *ends, size_t ends_len, const uint8_t *text, size_t text_len,
                                  uint8_t *out, size_t out_len, uint32_t (*labels)[3], size_t labels_len);
+
+/* Carries a body from the first sheet and string table to the second (sheet2, bytes2, ends2): each instruction gets the second
+   sheet's opcode of its name, and keeps its meaning. length counts the bytes, and a refusal's place is the instruction's index,
+   from 0; for 13 and 14 its byte offset. One label entry of three words is needed for each instruction. */
+struct desk_answer desk_carry(const uint8_t *sheet, size_t sheet_len, const uint8_t *bytes, size_t bytes_len,
+                              const uint32_t *ends, size_t ends_len, const uint8_t *sheet2, size_t sheet2_len,
+                              const uint8_t *bytes2, size_t bytes2_len, const uint32_t *ends2, size_t ends2_len,
+                              const uint8_t *body, size_t body_len, uint8_t *out, size_t out_len, uint32_t (*labels)[3],
+                              size_t labels_len);
 
 #ifdef __cplusplus
 }

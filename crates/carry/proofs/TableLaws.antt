@@ -6,13 +6,13 @@ use native.Mathlib.Omega.{arith}
 use lib.ListN.{length, getD, replicate, getD-replicate, List·getD-eq-default, length-replicate}
 use Rattle.lists.proofs.Tests.{by-leb}
 use Rattle.spec_sheet.specs.Line.{Op}
-use Rattle.spec_sheet.specs.Sheet.{SheetRead, sheetOf, fill, typeRows, noTypeRows}
+use Rattle.spec_sheet.specs.Sheet.{Sheet, SheetRead, sheetAt, sheetOf, fill, typeRows, noTypeRows}
 use Rattle.spec_sheet.specs.Sheet.SheetRead.{sheet, malformed}
 use Rattle.spec_sheet.proofs.OpLaws.{TypeCodes}
 use Rattle.spec_sheet.proofs.OpLaws.TypeCodes.{none, one}
-use Rattle.spec_sheet.proofs.RowLaws.{type-rows-length}
+use Rattle.spec_sheet.proofs.RowLaws.{type-rows-length, sheet-types}
+use Rattle.spec_sheet.proofs.SheetLaws.{whole-sheet}
 use Rattle.spec_body.proofs.RowLaws.{GoodRow}
-use Rattle.spec_body.proofs.SheetTables.{good-sheet}
 use Rattle.spec_inputs.specs.Context.{Context, contextFrom}
 use Rattle.sheet.specs.Sheets.{typesIn, infosIn}
 use Rattle.spec_carry.specs.Carry.{contextIn}
@@ -34,16 +34,20 @@ codes-zeros (one l m t) n (suc j) (suc k) h e = codes-zeros t n j k (omega arith
 good-zeros : {row : List ℕ} → GoodRow row → ZerosBehind row
 good-zeros g = rw (g .is-row) (codes-zeros (g .types) (8 - length (g .codes)))
 
+-- the rows of a sheet that was read somewhere in a text
+pub read-zeros : (text : List ℕ) (start : ℕ) (sh : Sheet) (at : ℕ) → sheetAt text start ≡ sheet sh at → (op : ℕ) → ZerosBehind (getD (typeRows (sh .opcodes)) op [])
+read-zeros text start sh at e op =
+    by-leb 256 op
+    (λ h j k l z. let d : length (typeRows (sh .opcodes)) ≤ op = omega (arith, type-rows-length (sh .opcodes)) in rw (List·getD-eq-default (typeRows (sh .opcodes)) [] d))
+    (λ h. let t = sheet-types text start sh at e op h in good-zeros (record { codes = t .codes; few = t .few; types = t .good; is-row = t .row-is }))
+
 -- the rows of every sheet, read or not
 pub sheet-zeros : (text : List ℕ) (op : ℕ) → ZerosBehind (getD (typesIn (sheetOf text)) op [])
 unfolding typesIn
 sheet-zeros text op = go (sheetOf text) refl
   where
     go : (x : SheetRead) → sheetOf text ≡ x → ZerosBehind (getD (typesIn x) op [])
-    go (sheet sh at) e =
-        by-leb 256 op
-        (λ h j k l z. let d : length (typeRows (sh .opcodes)) ≤ op = omega (arith, type-rows-length (sh .opcodes)) in rw (List·getD-eq-default (typeRows (sh .opcodes)) [] d))
-        (λ h. good-zeros (good-sheet text sh at e .rows op h))
+    go (sheet sh at) e = read-zeros text 0 sh at (whole-sheet text sh at e) op
     go (malformed line) e =
         by-leb 256 op
         (λ h j k l z. let d : length noTypeRows ≤ op = omega (arith, length-replicate 256 (replicate {A = ℕ} 8 0)) in rw (List·getD-eq-default noTypeRows [] d))

@@ -21,13 +21,7 @@ pub enum Sheets {
 }
 
 // Looks at the body and both string tables: 18 of each, then 17 of each.
-pub(crate) fn check_tables(
-    body: &[u8],
-    bytes: &[u8],
-    ends: &[u32],
-    bytes2: &[u8],
-    ends2: &[u32],
-) -> Inputs
+pub fn check_tables(body: &[u8], bytes: &[u8], ends: &[u32], bytes2: &[u8], ends2: &[u32]) -> Inputs
     ensures { λ r. ⌜ ((rest : Outcome) → unlessCase (tableCases (now (body .entry)) (now (bytes .entry)) (now (ends .entry)) (now (bytes2 .entry)) (now (ends2 .entry))) rest ≡ onInputs r rest) ⌝ }
 {
     if limits::BODY_LIMIT < body.len() {

@@ -1,5 +1,6 @@
 // Carrying: a body into the opcodes, operand widths and string ids of another sheet and string table.
 pub mod answer; // what carrying answers, and its numbers
+pub mod carry; // the operation
 pub mod first_pass; // 4 and 5 by instruction, then each operand
 pub mod ids; // the second table's id of each text of the first
 pub mod inputs; // 18, 17 and 1 of both sides, and the tables of both sheets

@@ -11,6 +11,7 @@ ghost use Rattle.spec_listing.specs.Operation as listing;
 ghost use Rattle.listing.specs.Parts.{optionsFrom};
 ghost use Rattle.listing.specs.Functions.{areaOf};
 ghost use Rattle.spec_hasm.specs.Operation as hasm;
+ghost use Rattle.spec_carry.specs.Carry as carry;
 use answers::report::Numbers;
 use decode::answer::decode_numbers;
 use encode::answer::encode_numbers;
@@ -172,6 +173,35 @@ pub extern "C" fn desk_assemble(
         bytes,
         ends,
         text,
+        out,
+        labels,
+    ))
+}
+
+// Carries a body from a sheet and string table to another.
+#[no_mangle]
+pub extern "C" fn desk_carry(
+    sheet: &[u8],
+    bytes: &[u8],
+    ends: &[u32],
+    sheet2: &[u8],
+    bytes2: &[u8],
+    ends2: &[u32],
+    body: &[u8],
+    out: &mut [u8],
+    labels: &mut [Slot],
+) -> Numbers
+    ensures { λ r. ⌜ Ended (carry.carry (record { sheet₁ = now (sheet .entry); bytes₁ = now (bytes .entry); ends₁ = now (ends .entry); sheet₂ = now (sheet2 .entry); bytes₂ = now (bytes2 .entry); ends₂ = now (ends2 .entry); body = now (body .entry) })) (now (out .entry)) (length (now (labels .entry)) ∷ []) (now (out .exit)) (reportIn r) ⌝ }
+    ensures { λ _. ⌜ now (labels .exit) ≡ cleared (0 ∷ 0 ∷ 0 ∷ []) (now (labels .entry)) ⌝ }
+{
+    carry::answer::carry_numbers(carry::carry::carry(
+        sheet,
+        bytes,
+        ends,
+        sheet2,
+        bytes2,
+        ends2,
+        body,
         out,
         labels,
     ))

@@ -15,7 +15,7 @@ use Rattle.answers.specs.Report.{Report, zeros}
 use Rattle.answers.specs.Numbers.{numbersOf}
 use Rattle.answers.specs.declared.report.Numbers.{Numbers}
 use Rattle.answers.specs.Refusals.{refusalReport}
-use Rattle.answers.specs.Outcome.{Outcome, Space, sizes, lent, Ended}
+use Rattle.answers.specs.Outcome.{Outcome, Space, produced, sizes, lent, Ended}
 use Rattle.answers.specs.Outcome.Outcome.{refusedWith}
 use Rattle.answers.proofs.NumberLaws.{number-some, no-length}
 use Rattle.answers.proofs.OutcomeLaws.{Sound, measured-sound, HowEnded, how-ended, length-within}
@@ -23,8 +23,15 @@ use Rattle.answers.proofs.OutcomeLaws.Sound.{whole-of, refusal-of}
 use Rattle.answers.proofs.OutcomeLaws.HowEnded.{was-refused, was-short, was-whole}
 use Rattle.answers.specs.declared.refusal.Refusal.{Refusal}
 use Rattle.answers.specs.declared.refusal.Refusal.the-variants.{BadString, TooLarge}
+use Rattle.spec_sheet.specs.Sheet.{largest}
 use Rattle.spec_strings.specs.Table.{tooLarge, fault}
-use Rattle.spec_inputs.specs.Inputs.{unlessFault, underTable}
+use Rattle.spec_inputs.specs.Inputs.{contextOf, unlessFault, underTable}
+use Rattle.spec_inputs.specs.Context.{Context}
+use Rattle.spec_body.specs.Decode.{decodeBody}
+use Rattle.spec_carry.specs.Cases.{Case, unlessCase}
+use Rattle.spec_carry.specs.Passes.{newBytes}
+use Rattle.spec_carry.specs.Carry as carrying
+use Rattle.spec_carry.specs.Carry.{recordsIn}
 use Rattle.spec_listing.specs.Listing.{Listed}
 use Rattle.spec_listing.specs.Listing.Listed.{listed, notListed}
 use Rattle.spec_listing.specs.Operation.{listOutcome}
@@ -32,7 +39,7 @@ use Rattle.spec_hasm.specs.Assemble.{Assembled}
 use Rattle.spec_hasm.specs.Assemble.Assembled.{assembled, notAssembled}
 use Rattle.spec_hasm.specs.Operation.{assembleOutcome}
 use Rattle.spec_job.specs.Job.{JobInputs}
-use Rattle.spec_job.specs.Printed.{jobSpace, printedOf, listUnder, assembleUnder}
+use Rattle.spec_job.specs.Printed.{jobSpace, printedOf, listUnder, assembleUnder, carryUnder}
 use Rattle.job.specs.Prints.{inForm, answerText}
 
 -- the outcomes of jobs have one output that their length counts
@@ -65,6 +72,25 @@ list-sound job e body = table-sound (e .bytes) (e .ends) _ (listing-sound _)
 pub assemble-sound : (job : List ℕ) (e : JobInputs) (t : List ℕ) → Sound (assembleUnder job e t)
 unfolding assembleUnder
 assemble-sound job e t = table-sound (e .bytes) (e .ends) _ (body-sound _ _)
+
+cases-sound : (cs : List Case) (x : Outcome) → Sound x → Sound (unlessCase cs x)
+unfolding unlessCase
+cases-sound [] x s = s
+cases-sound (c ∷ cs) x s = go (c .holds) (cases-sound cs x s)
+  where
+    go : (b : Bool) → Sound (unlessCase cs x) → Sound (pick b (refusedWith (c .refusal)) (unlessCase cs x))
+    go true t = refusal-of (c .refusal) refl
+    go false t = t
+
+pub carried-sound : (a b : Context) (last : ℕ) (body : List ℕ) → Sound (carrying.carryUnder a b last body)
+carried-sound a b last body =
+    let rs = recordsIn (decodeBody (a .types) last body) in
+    let bs = newBytes (carrying.carrying a b (length body) rs) 0 rs in
+    cases-sound _ (produced (length bs) bs (length rs ∷ [])) (whole-of bs (length rs ∷ []) refl)
+
+pub carry-sound : (job : List ℕ) (e f : JobInputs) (body : List ℕ) → Sound (carryUnder job e f body)
+unfolding carryUnder
+carry-sound job e f body = cases-sound _ _ (carried-sound (contextOf job (e .opcodes) (e .bytes) (e .ends)) (contextOf job (f .opcodes) (f .bytes) (f .ends)) (largest (e .opcodes)) body)
 
 -- what is lent is the program's space
 is-job-space : (out : List ℕ) → length out ≡ jobOutput → lent (out ∷ []) (jobLabels ∷ []) ≡ jobSpace

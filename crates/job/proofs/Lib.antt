@@ -11,3 +11,4 @@ pub mod AnswerLaws
 pub mod ListLaws
 pub mod AssembleLaws
 pub mod RunLaws
+pub mod CarryLaws

@@ -49,7 +49,7 @@ pub listing-prints : (job : List ℕ) (e : JobInputs) (body before out : List �
 listing-prints job e body before out answer room d p = same-print (answer-told false (λ (t : List ℕ). t) (λ t. refl) before out room answer _ (list-sound job e body) d) p
 
 -- two forms that print the same
-same-form : (f g : List ℕ → List ℕ) → ((t : List ℕ) → f t ≡ g t) → (x : Outcome) → printedOf f x ≡ printedOf g x
+pub same-form : (f g : List ℕ → List ℕ) → ((t : List ℕ) → f t ≡ g t) → (x : Outcome) → printedOf f x ≡ printedOf g x
 unfolding printedOf
 same-form f g h (result r) = ap (λ (s : List ℕ). pick (isShort (needed r) jobSpace) (refusedText shortage) s) (h (getD (r .outputs) 0 []))
 same-form f g h (refusedWith x) = refl

@@ -1,15 +1,17 @@
 -- What reading the parts of a job answers. Assumes nothing.
 use mathlib.Core.Path.{_≡_, refl, ap, sym, _∙_}
-use mathlib.Core.List.{List}
-use Prim.Native.Nat.{ℕ, _-_, _≤_}
+use mathlib.Core.List.{List, []}
+use Prim.Native.Nat.{ℕ, _+_, _-_, _≤_}
 use native.Mathlib.Nat.{sub-zero}
 use native.Mathlib.Omega.{arith}
-use lib.ListN.{length, take}
+use lib.ListN.{length, take, getD}
 use Rattle.spec_sheet.specs.Sheet.{largest}
 use Rattle.spec_job.specs.Job.{JobInputs, InputsRead, JobRead, inputsAt, withBody}
 use Rattle.spec_job.specs.Job.InputsRead.{inputs, badInputs}
 use Rattle.spec_job.specs.Job.JobRead.{badLine}
-use Rattle.spec_job.proofs.JobLaws.{body-size, inputs-size}
+use Rattle.spec_job.proofs.JobLaws.{body-size, inputs-size, inputs-parts}
+use Rattle.carry.specs.Ready.{ZerosBehind}
+use Rattle.carry.proofs.TableLaws.{read-zeros}
 use Rattle.job.specs.TableAnswers.{Opens}
 use Rattle.job.specs.ReaderAnswers.{BodyIn, InputsIn, Holds}
 use Rattle.job.specs.ReaderAnswers.InputsIn.{whole as whole-inputs, faulty as faulty-inputs}
@@ -67,12 +69,18 @@ pub was-bad-inputs : {x : InputsRead} {types ops : List (List ℕ)} {bytes ends 
 was-bad-inputs (whole-inputs e b′ line′ q p h) r = absurd (let z : _≡_ {A = ℕ} 0 1 = cc (sym p ∙ r) in omega arith)
 was-bad-inputs {line = line} (faulty-inputs line′ q p) r = let z : line′ ≡ line = cc (sym p ∙ r) in q ∙ ap badInputs z
 
-module _ (job : List ℕ) (start : ℕ) {types ops : List (List ℕ)} {bytes ends : List ℕ} {n : Numbers} (w : InputsWas (inputsAt job start 2) types ops bytes ends n) (h : length job ≤ 65536) where
-  -- its sizes and line
-  pub inputs-fits : (n .count ≤ 4096) × (n .size ≤ 32768) × (n .line ≤ 65536)
+module _ (job : List ℕ) (start line : ℕ) {types ops : List (List ℕ)} {bytes ends : List ℕ} {n : Numbers} (w : InputsWas (inputsAt job start line) types ops bytes ends n) (h : length job ≤ 65536) where
+  -- its sizes and lines
+  pub inputs-fits : (n .count ≤ 4096) × (n .size ≤ 32768) × (n .line ≤ line + 4355)
   inputs-fits =
-      let s = inputs-size job start 2 (w .of) (n .end) (n .line) (w .is-inputs) in
+      let s = inputs-size job start line (w .of) (n .end) (n .line) (w .is-inputs) in
       (omega (arith, w .count-is, s .0), omega (arith, w .size-is, s .1 .0), omega (arith, s .1 .1))
+
+  -- behind a type code 0 each row has only zeros
+  pub inputs-zeros : (op : ℕ) → ZerosBehind (getD types op [])
+  inputs-zeros =
+      let p = inputs-parts job start line (w .of) (n .end) (n .line) (w .is-inputs) in
+      rw (w .held .type-rows, p .opcodes-are) (read-zeros job start (p .of) (p .place) (p .is-sheet))
 
   -- the arrays' fronts are the inputs' strings
   pub inputs-held : (texts tableEnds : List ℕ) → texts ≡ take (n .size) bytes → tableEnds ≡ take (n .count) ends → n .size ≤ length bytes → n .count ≤ length ends

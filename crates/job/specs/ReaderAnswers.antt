@@ -9,10 +9,12 @@ use Rattle.lists.specs.Text.{text}
 use Rattle.spec_sheet.specs.Scan.{Step}
 use Rattle.spec_sheet.specs.Scan.Step.{next, off}
 use Rattle.spec_sheet.specs.Sheet.{typeRows, infoRows, largest}
-use Rattle.spec_job.specs.Job.{JobInputs, InputsRead, JobRead}
+use Rattle.spec_job.specs.Job.{JobInputs, InputsRead, JobRead, readList, readAssemble, readCarry}
 use Rattle.spec_job.specs.Job.InputsRead.{inputs, badInputs}
 use Rattle.spec_job.specs.Job.JobRead.{badLine}
 use Rattle.job.specs.TableAnswers.{Opens}
+use Rattle.job.specs.declared.reader.Work.{Work}
+use Rattle.job.specs.declared.reader.Work.the-variants as works
 use Rattle.job.specs.declared.reader.Asked.{Asked}
 use Rattle.job.specs.declared.reader.Asked.the-variants as jobs
 use Rattle.job.specs.declared.reader.InputsAnswer.{InputsAnswer}
@@ -24,7 +26,16 @@ use Rattle.job.specs.declared.reader.TextAnswer.the-variants as texts
 
 -- a job's first line says which it is
 unfoldable pub asked : List ℕ → Asked
-asked s = pick (opens (text "job=list\n") s) jobs.List (pick (opens (text "job=assemble\n") s) jobs.Assemble jobs.Other)
+asked s =
+    pick (opens (text "job=list\n") s) (jobs.Job works.List 9)
+    (pick (opens (text "job=assemble\n") s) (jobs.Job works.Assemble 13)
+    (pick (opens (text "job=carry\n") s) (jobs.Job works.Carry 10) jobs.Other))
+
+-- and how it is read behind that line
+unfoldable pub readWork : Work → List ℕ → ℕ → JobRead
+readWork works.List s at = readList s at
+readWork works.Assemble s at = readAssemble s at
+readWork works.Carry s at = readCarry s at
 
 -- what the lent arrays hold of the inputs: both tables by opcode, the strings' bytes and their ends
 pub record Holds (e : JobInputs) (types infos : List (List ℕ)) (bytes ends : List ℕ) : Type 0 where

@@ -1,5 +1,6 @@
 // What the desk program prints for a job.
 pub(crate) mod assemble_job; // a job that assembles a text
+pub(crate) mod carry_job; // a job that carries a body
 pub(crate) mod hex; // bytes in hex, read
 pub(crate) mod list_job; // a job that lists a body
 pub(crate) mod printed; // a refusal, a body and an answer as they are printed

@@ -21,12 +21,6 @@ use listing::options::Options;
 use operation::inputs::Inputs;
 use slices::write::clear;
 
-// Space for a job's body: two digits make a byte, so that half of the job's limit is enough. No contract, since the reader
-// says what it leaves.
-fn body_space() -> [u8; 32768] {
-    [0; 32768]
-}
-
 // Lists the body of a job whose lines are in order: 17, then as listing a body. The program lends 4,096 label entries.
 fn list_inputs(
     job: &[u8],
@@ -102,7 +96,7 @@ pub(crate) fn print_list(
     requires { ⌜ (length (now job) ≤ jobLimit) × (read .line ≤ jobLimit) ⌝ }
     ensures { λ r. ⌜ ((os : List Op) → now (types .entry) ≡ typeRows os → now (ops .entry) ≡ infoRows os → read .largest ≡ largest os → Prints (printedJob (now (job .entry)) (withBody (now (job .entry)) (read .end) (read .line) (listJob (record { opcodes = os; bytes = now (bytes .entry); ends = now (ends .entry) })))) (now (text .entry)) (now (text .exit)) r) ⌝ }
 {
-    let mut body = body_space();
+    let mut body = crate::reader::body_space();
     let b = crate::reader::body_at(job, read.end, read.line, &mut body);
     match b {
         BodyAnswer::Read(n) => {

@@ -12,10 +12,16 @@ use crate::table::TableAnswer;
 use sheet::opcode::Sheet;
 use sheet::scan::Step;
 
-// What a job asks for by its first line.
-pub(crate) enum Asked {
+// What a job asks for.
+pub(crate) enum Work {
     List,
     Assemble,
+    Carry,
+}
+
+// What its first line says: what it asks for, and where the next line stands; or none of these.
+pub(crate) enum Asked {
+    Job(Work, usize),
     Other,
 }
 
@@ -23,12 +29,29 @@ pub(crate) fn which_job(s: &[u8]) -> Asked
     ensures { λ r. ⌜ r ≡ asked (now (s .entry)) ⌝ }
 {
     if slices::compare::opens_at(s, 0, b"job=list\n") {
-        return Asked::List;
+        return Asked::Job(Work::List, 9);
     }
     if slices::compare::opens_at(s, 0, b"job=assemble\n") {
-        return Asked::Assemble;
+        return Asked::Job(Work::Assemble, 13);
+    }
+    if slices::compare::opens_at(s, 0, b"job=carry\n") {
+        return Asked::Job(Work::Carry, 10);
     }
     Asked::Other
+}
+
+// Space for a job's strings, or for its body: two digits make a byte, so that half of the job's limit is enough. No contract,
+// since the functions below say what they leave.
+pub(crate) fn string_space() -> [u8; 32768] {
+    [0; 32768]
+}
+
+pub(crate) fn body_space() -> [u8; 32768] {
+    [0; 32768]
+}
+
+pub(crate) fn end_space() -> [u32; limits::JOB_STRING_LIMIT] {
+    [0; limits::JOB_STRING_LIMIT]
 }
 
 // Inputs that were read: the place behind them and the number of the line there, the largest opcode, how many strings

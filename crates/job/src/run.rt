@@ -3,38 +3,28 @@ ghost use mathlib.Core.List.{[]};
 ghost use Prim.Native.Nat.{_≤_};
 ghost use lib.ListN.{length};
 ghost use Rattle.limits.specs.Limits.{jobLimit};
-ghost use Rattle.lists.specs.Choice.{pick};
 ghost use Rattle.answers.specs.Outcome.{Ended};
-ghost use Rattle.spec_job.specs.Job.{readList, readAssemble};
 ghost use Rattle.spec_job.specs.Printed as operation;
 ghost use Rattle.spec_job.specs.Printed.{printedJob, printed};
 ghost use Rattle.job.specs.Run.{runReport};
+ghost use Rattle.job.specs.ReaderAnswers.{readWork};
 ghost use Rattle.job.specs.Prints.{Prints};
 use crate::printed::refused;
 use crate::reader::Asked;
 use crate::reader::InputsAnswer;
+use crate::reader::Work;
 use answers::refusal::Refusal;
 use slices::write::clear;
 
-// Space for a job's strings: two digits make a byte, so that half of the job's limit is enough. No contract, since the
-// reader says what it leaves.
-fn string_space() -> [u8; 32768] {
-    [0; 32768]
-}
-
-fn end_space() -> [u32; limits::JOB_STRING_LIMIT] {
-    [0; limits::JOB_STRING_LIMIT]
-}
-
-// Prints a job whose inputs stand at `start`, behind the line that says what it asks for: a listing, or else a body.
-fn print_job(lists: bool, job: &[u8], start: usize, text: &mut [u8]) -> usize
+// Prints a job whose inputs stand at `start`, behind the line that says what it asks for.
+fn print_job(work: Work, job: &[u8], start: usize, text: &mut [u8]) -> usize
     requires { ⌜ length (now job) ≤ jobLimit ⌝ }
-    ensures { λ r. ⌜ Prints (printedJob (now (job .entry)) (pick lists (readList (now (job .entry)) start) (readAssemble (now (job .entry)) start))) (now (text .entry)) (now (text .exit)) r ⌝ }
+    ensures { λ r. ⌜ Prints (printedJob (now (job .entry)) (readWork work (now (job .entry)) start)) (now (text .entry)) (now (text .exit)) r ⌝ }
 {
     let mut types = [[0u8; 8]; 256];
     let mut ops = [[0usize; 4]; 256];
-    let mut bytes = string_space();
-    let mut ends = end_space();
+    let mut bytes = crate::reader::string_space();
+    let mut ends = crate::reader::end_space();
     let e = crate::reader::inputs_at(job, start, 2, &mut types, &mut ops, &mut bytes, &mut ends);
     match e {
         InputsAnswer::Read(read) => {
@@ -42,18 +32,24 @@ fn print_job(lists: bool, job: &[u8], start: usize, text: &mut [u8]) -> usize
             let count = read.count;
             let texts = &bytes[0..size];
             let table_ends = &ends[0..count];
-            if lists {
-                crate::list_job::print_list(job, read, &types, &ops, texts, table_ends, text)
-            } else {
-                crate::assemble_job::print_assembled(
-                    job,
-                    read,
-                    &types,
-                    &ops,
-                    texts,
-                    table_ends,
-                    text,
-                )
+            match work {
+                Work::List => {
+                    crate::list_job::print_list(job, read, &types, &ops, texts, table_ends, text)
+                }
+                Work::Assemble => {
+                    crate::assemble_job::print_assembled(
+                        job,
+                        read,
+                        &types,
+                        &ops,
+                        texts,
+                        table_ends,
+                        text,
+                    )
+                }
+                Work::Carry => {
+                    crate::carry_job::print_carry(job, read, &types, &ops, texts, table_ends, text)
+                }
             }
         }
         InputsAnswer::BadLine(bad) => refused(text, Refusal::Malformed(bad)),
@@ -69,8 +65,7 @@ fn print(job: &[u8], text: &mut [u8]) -> usize
     }
     let w = crate::reader::which_job(job);
     match w {
-        Asked::List => print_job(true, job, 9, text),
-        Asked::Assemble => print_job(false, job, 13, text),
+        Asked::Job(work, start) => print_job(work, job, start, text),
         Asked::Other => refused(text, Refusal::Malformed(1)),
     }
 }

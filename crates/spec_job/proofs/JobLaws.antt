@@ -20,9 +20,9 @@ use Rattle.spec_job.specs.Hex.{HexRead}
 use Rattle.spec_job.specs.Hex.HexRead.{hex, noHex}
 use Rattle.spec_job.specs.Table.{TableRead, onHex, keyedHexAt, stringsLimit, tableAt}
 use Rattle.spec_job.specs.Table.TableRead.{table, faultAfter}
-use Rattle.spec_job.specs.Job.{JobInputs, JobRead, withTable, withSheet, inputsAt, onInputs, withBody, withText, readList, readAssemble, readWord, readJob}
+use Rattle.spec_job.specs.Job.{JobInputs, JobRead, withTable, withSheet, inputsAt, onInputs, withBody, withText, withSecond, readList, readAssemble, readCarry, readWord, readJob}
 use Rattle.spec_job.specs.Job.InputsRead.{inputs, badInputs}
-use Rattle.spec_job.specs.Job.JobRead.{badLine, listJob, assembleJob}
+use Rattle.spec_job.specs.Job.JobRead.{badLine, listJob, assembleJob, carryJob}
 use Rattle.spec_job.proofs.TableLaws.{table-size, keyed-spread}
 
 -- a sheet's malformed line is one of its first 258
@@ -154,9 +154,14 @@ module _ (s : List ℕ) where
     unfolding readJob readWord literalAt after text
     job-assemble e = rw (n, e)
 
-    pub job-other : opens (text "job=assemble\n") s ≡ false → readJob s ≡ badLine 1
-    unfolding readJob readWord literalAt after
-    job-other e = rw (n, e)
+    module _ (m : opens (text "job=assemble\n") s ≡ false) where
+      pub job-carry : opens (text "job=carry\n") s ≡ true → readJob s ≡ readCarry s 10
+      unfolding readJob readWord literalAt after text
+      job-carry e = rw (n, m, e)
+
+      pub job-other : opens (text "job=carry\n") s ≡ false → readJob s ≡ badLine 1
+      unfolding readJob readWord literalAt after
+      job-other e = rw (n, m, e)
 
   -- one that asks for a listing by its inputs
   pub list-bad : (at line : ℕ) → inputsAt s at 2 ≡ badInputs line → readList s at ≡ badLine line
@@ -175,6 +180,23 @@ module _ (s : List ℕ) where
   pub assemble-text : (at : ℕ) (e : JobInputs) (b line : ℕ) → inputsAt s at 2 ≡ inputs e b line → readAssemble s at ≡ withText s b line e
   unfolding readAssemble onInputs
   assemble-text at e b line q = rw q
+
+  -- and one that asks for carrying, by its first inputs and by its second
+  pub carry-bad : (at line : ℕ) → inputsAt s at 2 ≡ badInputs line → readCarry s at ≡ badLine line
+  unfolding readCarry onInputs
+  carry-bad at line e = rw e
+
+  pub carry-second : (at : ℕ) (e : JobInputs) (b line : ℕ) → inputsAt s at 2 ≡ inputs e b line → readCarry s at ≡ withSecond s b line e
+  unfolding readCarry onInputs
+  carry-second at e b line q = rw q
+
+  pub second-bad : (at line : ℕ) (e : JobInputs) (bad : ℕ) → inputsAt s at line ≡ badInputs bad → withSecond s at line e ≡ badLine bad
+  unfolding withSecond onInputs
+  second-bad at line e bad q = rw q
+
+  pub second-body : (at line : ℕ) (e f : JobInputs) (b line′ : ℕ) → inputsAt s at line ≡ inputs f b line′ → withSecond s at line e ≡ withBody s b line′ (carryJob e f)
+  unfolding withSecond onInputs
+  second-body at line e f b line′ q = rw q
 
   module _ (at line : ℕ) (e : JobInputs) where
     pub text-starts : (v b : ℕ) → literalAt (text "text=\n") s at ≡ next v b → withText s at line e ≡ assembleJob e b

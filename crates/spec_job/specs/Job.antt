@@ -1,5 +1,4 @@
 -- The lines of a job (document 01, 'Around the core'). Assumes nothing.
-use mathlib.Core.Bool.{Bool, true, false}
 use mathlib.Core.List.{List}
 use Prim.Native.Nat.{ℕ, _+_, _-_}
 use lib.Dec.{eqb}
@@ -65,17 +64,18 @@ unfoldable pub readAssemble : List ℕ → ℕ → JobRead
 readAssemble s at = onInputs (inputsAt s at 2) λ e b line. withText s b line e
 
 -- "`job=carry` puts the second sheet and strings before `body`"
-unfoldable pub readCarry : List ℕ → ℕ → JobRead
-readCarry s at = onInputs (inputsAt s at 2) λ e b line.
-    onInputs (inputsAt s b line) λ f c next.
-    withBody s c next (carryJob e f)
+unfoldable pub withSecond : List ℕ → ℕ → ℕ → JobInputs → JobRead
+withSecond s at line e = onInputs (inputsAt s at line) λ f b next. withBody s b next (carryJob e f)
 
--- a job's first line says which it is; a word that this desk does not have yet is malformed
-unfoldable pub readWord : Bool → List ℕ → List ℕ → (List ℕ → ℕ → JobRead) → JobRead → JobRead
-readWord has word s read other = pick has (after (literalAt word s 0) other λ _ at. read s at) other
+unfoldable pub readCarry : List ℕ → ℕ → JobRead
+readCarry s at = onInputs (inputsAt s at 2) λ e b line. withSecond s b line e
+
+-- a job's first line says which it is
+unfoldable pub readWord : List ℕ → List ℕ → (List ℕ → ℕ → JobRead) → JobRead → JobRead
+readWord word s read other = after (literalAt word s 0) other λ _ at. read s at
 
 unfoldable pub readJob : List ℕ → JobRead
 readJob s =
-    readWord true (text "job=list\n") s readList
-    (readWord true (text "job=assemble\n") s readAssemble
-    (readWord false (text "job=carry\n") s readCarry (badLine 1)))
+    readWord (text "job=list\n") s readList
+    (readWord (text "job=assemble\n") s readAssemble
+    (readWord (text "job=carry\n") s readCarry (badLine 1)))

@@ -21,6 +21,9 @@ use Rattle.spec_listing.specs.Operation.{listOutcome}
 use Rattle.spec_inputs.specs.Inputs.{underTable, contextOf}
 use Rattle.spec_hasm.specs.Assemble.{assembleText, assembleEntries}
 use Rattle.spec_hasm.specs.Operation.{assembleOutcome}
+use Rattle.spec_carry.specs.Cases.{unlessCase}
+use Rattle.spec_carry.specs.Carry as carrying
+use Rattle.spec_carry.specs.Carry.{tableCases}
 use Rattle.spec_job.specs.Job.{JobInputs, JobRead, readJob}
 use Rattle.spec_job.specs.Job.JobRead.{listJob, assembleJob, carryJob, badLine}
 
@@ -40,11 +43,19 @@ assembleUnder s e t =
     let under = contextOf s (e .opcodes) (e .bytes) (e .ends) in
     underTable (e .bytes) (e .ends) (assembleOutcome (assembleEntries under t) (assembleText under t))
 
--- a job by its lines; carrying is not read yet
+-- the body that a job's body is carried to: 17 (first table, then second), then as carrying a body. The names of both sheets are
+-- places of the job
+unfoldable pub carryUnder : List ℕ → JobInputs → JobInputs → List ℕ → Outcome
+carryUnder s e f body =
+    let from = contextOf s (e .opcodes) (e .bytes) (e .ends) in
+    let into = contextOf s (f .opcodes) (f .bytes) (f .ends) in
+    unlessCase (tableCases body (e .bytes) (e .ends) (f .bytes) (f .ends)) (carrying.carryUnder from into (largest (e .opcodes)) body)
+
+-- a job by its lines
 unfoldable pub jobRun : List ℕ → JobRead → Outcome
 jobRun s (listJob e body) = listUnder s e body
 jobRun s (assembleJob e at) = assembleUnder s e (drop at s)
-jobRun s (carryJob e f body) = refusedWith (Malformed 1)
+jobRun s (carryJob e f body) = carryUnder s e f body
 jobRun s (badLine line) = refusedWith (Malformed line)
 
 -- "A refusal prints `refused=N place=P operand=Q`"; "each printed line ends in LF"

@@ -291,6 +291,45 @@ fn cells(strings: usize) -> Table {
     Table::new((0..strings).map(|n| format!("cell {n}")).collect())
 }
 
+/// Carrying a body to the same sheet and table, beside decoding and listing it. Nothing in the Rust carries.
+fn carrying(sheets: &[(usize, Sheet)], strings: usize) {
+    println!("\nCarrying, beside decoding and listing the same body, {strings} strings\n");
+    println!("| | carrying, µs | times decoding | times listing |\n|---|---|---|---|");
+    let table = cells(strings);
+    for (count, sheet) in sheets {
+        let mut r = Random::new(7);
+        let mut grown = Vec::new();
+        for size in SIZES {
+            let body = asm_texts::that_comes_back(&mut r, sheet, &table, size);
+            let edition = desk::Edition { sheet: &sheet.text, bytes: &table.bytes, ends: &table.ends };
+            let (mut words, mut text, mut entries) = (vec![0u64; 20 * body.len()], vec![0u8; 1 << 20], vec![0u32; 1 << 16]);
+            let (mut out, mut labels) = (vec![0u8; body.len()], vec![[0u32; 3]; body.len()]);
+            let mut other = (vec![0u8; body.len()], vec![[0u32; 3]; body.len()]);
+            assert!(desk::carry(edition, edition, &body, &mut out, &mut labels) == rust::success(body.len()) && out == body);
+            let decoded = both(
+                || {
+                    black_box(desk::decode(&sheet.text, &body, &mut words));
+                },
+                || {
+                    black_box(desk::carry(edition, edition, &body, &mut out, &mut labels));
+                },
+            );
+            let listed = both(
+                || {
+                    black_box(desk::list(&sheet.text, &table.bytes, &table.ends, &body, listing::DEFAULT, &mut text, &mut entries));
+                },
+                || {
+                    black_box(desk::carry(edition, edition, &body, &mut other.0, &mut other.1));
+                },
+            );
+            let what = format!("{size} bytes, {count} opcodes");
+            println!("| {what} | {:.1} | {:.1} | {:.1} |", decoded.desk, 1.0 / decoded.ratio, 1.0 / listed.ratio);
+            grown.push(decoded.desk);
+        }
+        println!("| growth from 8 KiB to 64 KiB, {count} opcodes | {:.1} times | | |", grown[3] / grown[2]);
+    }
+}
+
 /// The Rust makes a map of the table first and then looks up; the desk searches.
 fn lookups() {
     heading("Looking up one text, the Rust's map being made in the call");
@@ -339,6 +378,10 @@ pub fn run(part: &str) {
         }
         large_tables();
         looked_up();
+    }
+    if wanted("carrying") {
+        carrying(&sheets, 16);
+        carrying(&sheets, 65_536);
     }
     if wanted("stack") {
         stack::run();

@@ -127,6 +127,26 @@ mod c {
             labels: *mut [u32; 3],
             labels_len: usize,
         ) -> Answer;
+        pub fn desk_carry(
+            sheet: *const u8,
+            sheet_len: usize,
+            bytes: *const u8,
+            bytes_len: usize,
+            ends: *const u32,
+            ends_len: usize,
+            sheet2: *const u8,
+            sheet2_len: usize,
+            bytes2: *const u8,
+            bytes2_len: usize,
+            ends2: *const u32,
+            ends2_len: usize,
+            body: *const u8,
+            body_len: usize,
+            out: *mut u8,
+            out_len: usize,
+            labels: *mut [u32; 3],
+            labels_len: usize,
+        ) -> Answer;
 
         pub fn part_parse_u32(text: *const u8, text_len: usize) -> Number;
         pub fn part_parse_hex(text: *const u8, text_len: usize) -> Number;
@@ -253,6 +273,39 @@ pub fn assemble(sheet: &[u8], bytes: &[u8], ends: &[u32], text: &[u8], out: &mut
             ends.len(),
             text.as_ptr(),
             text.len(),
+            out.as_mut_ptr(),
+            out.len(),
+            labels.as_mut_ptr(),
+            labels.len(),
+        )
+    }
+}
+
+/// A sheet's text with the bytes and ends of a string table.
+#[derive(Clone, Copy)]
+pub struct Edition<'a> {
+    pub sheet: &'a [u8],
+    pub bytes: &'a [u8],
+    pub ends: &'a [u32],
+}
+
+pub fn carry(from: Edition, into: Edition, body: &[u8], out: &mut [u8], labels: &mut [[u32; 3]]) -> Answer {
+    unsafe {
+        c::desk_carry(
+            from.sheet.as_ptr(),
+            from.sheet.len(),
+            from.bytes.as_ptr(),
+            from.bytes.len(),
+            from.ends.as_ptr(),
+            from.ends.len(),
+            into.sheet.as_ptr(),
+            into.sheet.len(),
+            into.bytes.as_ptr(),
+            into.bytes.len(),
+            into.ends.as_ptr(),
+            into.ends.len(),
+            body.as_ptr(),
+            body.len(),
             out.as_mut_ptr(),
             out.len(),
             labels.as_mut_ptr(),

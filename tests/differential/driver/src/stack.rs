@@ -101,6 +101,15 @@ fn far_labels() {
     measured("desk_list, 13,107 labels far outside", success(length), || desk::list(sheet, &[], &[], &body, shown, &mut text, &mut entries));
 }
 
+/// Carrying jumps, with as many strings on both sides.
+fn carried(what: &str, table: &Table, count: usize) {
+    let sheet = sheets::of_document();
+    let edition = desk::Edition { sheet: &sheet.text, bytes: &table.bytes, ends: &table.ends };
+    let body = [1, 0].repeat(count);
+    let (mut out, mut labels) = (vec![0u8; body.len()], vec![[0u32; 3]; count]);
+    measured(what, success(body.len()), || desk::carry(edition, edition, &body, &mut out, &mut labels));
+}
+
 pub fn run() {
     println!("\nStack of each function, by the bytes it leaves changed below its caller\n");
     println!("| call | stack, bytes |\n|---|---|");
@@ -115,4 +124,8 @@ pub fn run() {
     assembled("desk_assemble, one line", &none, "Ret r1\n", 2, 0, success(2));
     assembled("desk_assemble, at the limits", &many, &largest(), 65_536, 8190, success(65_536));
     assembled("desk_assemble, at the limits, no label entries", &many, &largest(), 65_536, 0, refusal(19, 0, 0));
+    carried("desk_carry, an empty body, no strings", &none, 0);
+    carried("desk_carry, an empty body, 65,536 strings", &many, 0);
+    carried("desk_carry, 65,536 bytes, no strings", &none, 32_768);
+    carried("desk_carry, at the limits", &many, 32_768);
 }

@@ -1,5 +1,5 @@
 use Rattle.lists.specs.Text.{text}
-use Rattle.job.proofs.AskedLaws.{asks-list, asks-assemble, asks-other}
+use Rattle.job.proofs.AskedLaws.{asks-list, asks-assemble, asks-carry, asks-other}
 use mathlib.Core.Path.{sym, _∙_}
 use borrow.Author.Needs.{needs}
 use Rattle.job.proofs.reader.which_job.Statement.{statement}
@@ -25,9 +25,19 @@ returns-2 : tie.Need-returns-2
 unfolding text
 returns-2 c = asks-assemble _ (sym (c .before .before .before .before .opens-at .ensures) ∙ c .before .before .before .if1 .left) (sym (c .before .opens-at2 .ensures) ∙ c .if2 .taken)
 
+slice-aggregate-opens-at-3 : tie.Need-slice-aggregate-opens-at-3
+slice-aggregate-opens-at-3 c = search needs
+
+opens-at-requires-3 : tie.Need-opens-at-requires-3
+opens-at-requires-3 c κs = search needs
+
 returns-3 : tie.Need-returns-3
 unfolding text
-returns-3 c = asks-other _ (sym (c .before .before .before .before .opens-at .ensures) ∙ c .before .before .before .if1 .left) (sym (c .before .opens-at2 .ensures) ∙ c .if2 .left)
+returns-3 c = asks-carry _ (sym (c .before .before .before .before .before .before .before .opens-at .ensures) ∙ c .before .before .before .before .before .before .if1 .left) (sym (c .before .before .before .before .opens-at2 .ensures) ∙ c .before .before .before .if2 .left) (sym (c .before .opens-at3 .ensures) ∙ c .if3 .taken)
+
+returns-4 : tie.Need-returns-4
+unfolding text
+returns-4 c = asks-other _ (sym (c .before .before .before .before .before .before .before .opens-at .ensures) ∙ c .before .before .before .before .before .before .if1 .left) (sym (c .before .before .before .before .opens-at2 .ensures) ∙ c .before .before .before .if2 .left) (sym (c .before .opens-at3 .ensures) ∙ c .if3 .left)
 
 pub which-job-spec : {M : Type 1} → statement M
 which-job-spec =
@@ -39,4 +49,7 @@ which-job-spec =
     slice-aggregate-opens-at-2
     opens-at-requires-2
     returns-2
-    returns-3)
+    slice-aggregate-opens-at-3
+    opens-at-requires-3
+    returns-3
+    returns-4)

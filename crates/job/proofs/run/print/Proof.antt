@@ -19,20 +19,14 @@ returns c = large-prints _ _ _ _ (c .before .before .before .before .if1 .taken)
 which-job-requires : tie.Need-which-job-requires
 which-job-requires c κs = search needs
 
-enum-told : tie.Need-enum-told
-enum-told c = search needs
+enum-known-w : tie.Need-enum-known-w
+enum-known-w c = search needs
 
 print-job-requires : tie.Need-print-job-requires
-print-job-requires c κs = c .before .before .before .before .if1 .left
+print-job-requires c κs = c .before .before .before .before .before .if1 .left
 
-enum-told-2 : tie.Need-enum-told-2
-enum-told-2 c = search needs
-
-print-job-requires-2 : tie.Need-print-job-requires-2
-print-job-requires-2 c κs = c .before .before .before .before .if1 .left
-
-enum-told-3 : tie.Need-enum-told-3
-enum-told-3 c = search needs
+enum-told : tie.Need-enum-told
+enum-told c = search needs
 
 refused-requires-2 : tie.Need-refused-requires-2
 refused-requires-2 c κs = search needs
@@ -42,21 +36,14 @@ same-length-2 c = search needs
 
 returns-2 : tie.Need-returns-2
 unfolding readAs
-returns-2 c = job-prints _ _ _ _ (c .before .before .before .before .before .before .before .if1 .left) jobs.List (sym (c .before .before .before .before .enum-told .given .1) ∙ c .before .before .before .before .before .before .which-job .ensures) (c .before .before .print-job .ensures)
+returns-2 c = job-prints _ _ _ _ (c .before .before .before .before .before .before .before .before .if1 .left) (jobs.Job (c .before .before .before .before .before .w .given .0 .0) (c .before .before .before .before .before .w .given .0 .1 .0)) (sym (c .before .before .before .before .before .w .given .1) ∙ c .before .before .before .before .before .before .before .which-job .ensures) (c .before .before .print-job .ensures)
 
 same-length-3 : tie.Need-same-length-3
 same-length-3 c = search needs
 
 returns-3 : tie.Need-returns-3
 unfolding readAs
-returns-3 c = job-prints _ _ _ _ (c .before .before .before .before .before .before .before .if1 .left) jobs.Assemble (sym (c .before .before .before .before .enum-told2 .given .1) ∙ c .before .before .before .before .before .before .which-job .ensures) (c .before .before .print-job2 .ensures)
-
-same-length-4 : tie.Need-same-length-4
-same-length-4 c = search needs
-
-returns-4 : tie.Need-returns-4
-unfolding readAs
-returns-4 c = job-prints _ _ _ _ (c .before .before .before .before .before .before .before .if1 .left) jobs.Other (sym (c .before .before .before .before .enum-told3 .given .1) ∙ c .before .before .before .before .before .before .which-job .ensures) (line-prints (c .before .before .before .before .before .before .before .before .before .before .args .job .now) refl (c .before .before .refused2 .ensures))
+returns-3 c = job-prints _ _ _ _ (c .before .before .before .before .before .before .before .if1 .left) jobs.Other (sym (c .before .before .before .before .enum-told .given .1) ∙ c .before .before .before .before .before .before .which-job .ensures) (line-prints (c .before .before .before .before .before .before .before .before .before .before .args .job .now) refl (c .before .before .refused2 .ensures))
 
 pub print-spec : {M : Type 1} → statement M
 print-spec =
@@ -66,15 +53,11 @@ print-spec =
     same-length
     returns
     which-job-requires
-    enum-told
+    enum-known-w
     print-job-requires
-    enum-told-2
-    print-job-requires-2
-    enum-told-3
+    enum-told
     refused-requires-2
     same-length-2
     returns-2
     same-length-3
-    returns-3
-    same-length-4
-    returns-4)
+    returns-3)

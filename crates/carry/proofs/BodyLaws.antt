@@ -1,7 +1,7 @@
 -- What a body is carried to, pass by pass. Assumes nothing.
-use mathlib.Core.Path.{_≡_, refl, ap, sym, _∙_}
+use mathlib.Core.Path.{_≡_, refl, sym, _∙_}
 use mathlib.Core.List.{List, [], _∷_, _++_}
-use Prim.Native.Nat.{ℕ, _≤_, _<_}
+use Prim.Native.Nat.{ℕ}
 use native.Mathlib.Omega.{arith}
 use lib.Dec.{ltb}
 use lib.ListN.{length}
@@ -18,16 +18,11 @@ use Rattle.operation.specs.Ends.{measuredOf, leftBy, measuredReport}
 use Rattle.operation.specs.declared.ending.Measured.{Measured}
 use Rattle.operation.proofs.EndLaws.{measured-end}
 use Rattle.spec_inputs.specs.Context.{Context}
-use Rattle.spec_body.specs.Decode.{Decoded, decodeBody}
+use Rattle.spec_body.specs.Decode.{decodeBody}
 use Rattle.spec_body.specs.Decode.Decoded.{decoded, notDecoded}
 use Rattle.spec_carry.specs.Cases.{Case, case, unlessCase}
 use Rattle.spec_carry.specs.Passes.{Carrying, firstPass, secondPass, newBytes}
 use Rattle.spec_carry.specs.Carry.{carrying, decodeCases, recordsIn, carryUnder}
-use Rattle.carry.specs.Passed.{onPassed, BytesPut}
-use Rattle.carry.specs.Passed.BytesPut.{whole, refuses}
-use Rattle.carry.specs.declared.first_pass.Passed.the-variants as first
-use Rattle.carry.specs.declared.second_pass.Bytes.{Bytes}
-use Rattle.carry.specs.declared.second_pass.Bytes.the-variants as second
 
 module _ (a b : Context) (last : ℕ) (s : List ℕ) where
   -- a body that does not decode
@@ -53,22 +48,21 @@ module _ (a b : Context) (last : ℕ) (s : List ℕ) where
     unfolding decodeCases recordsIn
     is-decoded = rw e
 
-    pub first-refused : (f : Refusal) → ((cs : List Case) (rest : Outcome) → unlessCase (firstPass x 0 rs ++ cs) rest ≡ refusedWith f) → carryUnder a b last s ≡ refusedWith f
-    first-refused f p = is-decoded ∙ p (secondPass x 0 rs ++ tail) result
+    -- one of the passes refuses it
+    pub pass-refused : (f : Refusal) → ((cs : List Case) (rest : Outcome) → unlessCase (firstPass x 0 rs ++ (secondPass x 0 rs ++ cs)) rest ≡ refusedWith f) → carryUnder a b last s ≡ refusedWith f
+    pass-refused f p = is-decoded ∙ p tail result
 
-    module _ (p : (cs : List Case) (rest : Outcome) → unlessCase (firstPass x 0 rs ++ cs) rest ≡ unlessCase cs rest) where
-      pub second-refused : (f : Refusal) → ((cs : List Case) (rest : Outcome) → unlessCase (secondPass x 0 rs ++ cs) rest ≡ refusedWith f) → carryUnder a b last s ≡ refusedWith f
-      second-refused f q = is-decoded ∙ (p (secondPass x 0 rs ++ tail) result ∙ q tail result)
-
-      pub both-passed : ((cs : List Case) (rest : Outcome) → unlessCase (secondPass x 0 rs ++ cs) rest ≡ unlessCase cs rest) → carryUnder a b last s ≡ measured bodyLimit (length rs ∷ []) bs
+    -- both pass
+    module _ (p : (cs : List Case) (rest : Outcome) → unlessCase (firstPass x 0 rs ++ (secondPass x 0 rs ++ cs)) rest ≡ unlessCase cs rest) where
+      both-passed : carryUnder a b last s ≡ measured bodyLimit (length rs ∷ []) bs
       unfolding unlessCase measured
-      both-passed q = is-decoded ∙ (p (secondPass x 0 rs ++ tail) result ∙ q tail result)
+      both-passed = is-decoded ∙ p tail result
 
       -- all was written and measured
-      pub written-end : {before now after : List ℕ} (k n room : ℕ) (m : Measured) → ((cs : List Case) (rest : Outcome) → unlessCase (secondPass x 0 rs ++ cs) rest ≡ unlessCase cs rest)
+      pub written-end : {before now after : List ℕ} (k n room : ℕ) (m : Measured)
           → Put before 0 bs now k → n ≡ length rs → m ≡ measuredOf k 65536 n room (length now) → after ≡ leftBy m now → Ended (carryUnder a b last s) before (room ∷ []) after (measuredReport k m)
-      written-end {before} {now} {after} k n room m q put c e′ z =
-          rw (both-passed q, sym c) (measured-end 65536 (omega arith) bs before now k n room put m after e′ z)
+      written-end {before} {now} {after} k n room m put c e′ z =
+          rw (both-passed, sym c) (measured-end 65536 (omega arith) bs before now k n room put m after e′ z)
 
 -- a refusal ends it
 pub refused : {o : Outcome} {before room after : List ℕ} (x : Refusal) → o ≡ refusedWith x → after ≡ zeros before → Ended o before room after (refusalReport x)

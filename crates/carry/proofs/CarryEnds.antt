@@ -1,15 +1,14 @@
 -- Carrying with its inputs: how it ends. Assumes nothing.
 use mathlib.Core.Path.{_≡_, refl, ap, sym, _∙_}
 use mathlib.Core.Bool.{Bool, true, false}
-use mathlib.Core.List.{List, [], _∷_, _++_}
-use Prim.Native.Nat.{ℕ, _≤_, _<_}
+use mathlib.Core.List.{List, []}
+use Prim.Native.Nat.{ℕ, _≤_}
 use native.Mathlib.Omega.{arith}
-use lib.Dec.{ltb}
 use lib.ListN.{length, getD}
 use borrow.Author.Tests.{ltb-false}
 use Rattle.lists.specs.Choice.{either}
 use Rattle.lists.proofs.Tests.{true-not-false}
-use Rattle.limits.specs.Limits.{bodyLimit, stringLimit, stringBytesLimit}
+use Rattle.limits.specs.Limits.{bodyLimit, stringLimit}
 use Rattle.answers.specs.Report.{Report, zeros}
 use Rattle.answers.specs.Refusals.{refusalReport}
 use Rattle.answers.specs.Outcome.{Outcome, produced, Ended}
@@ -17,8 +16,7 @@ use Rattle.answers.specs.Outcome.Outcome.{refusedWith}
 use Rattle.answers.specs.declared.refusal.Refusal.{Refusal}
 use Rattle.spec_sheet.specs.Sheet.{sheetOf}
 use Rattle.spec_strings.specs.Table.{tooLarge}
-use Rattle.spec_inputs.specs.Context.{Context, contextFrom}
-use Rattle.sheet.specs.Sheets.{typesIn, infosIn}
+use Rattle.spec_inputs.specs.Context.{contextFrom}
 use Rattle.spec_carry.specs.Cases.{Case, unlessCase}
 use Rattle.spec_carry.specs.Carry.{Given, tableCases, inputCases, carryCases, carried, largestIn, from, into, carryUnder, carry}
 use Rattle.spec_carry.proofs.CaseLaws.{Passed, result-passed, passed-head, passed-tail}
@@ -29,7 +27,7 @@ use Rattle.carry.specs.declared.inputs.Inputs.{Inputs}
 use Rattle.carry.specs.declared.inputs.Inputs.the-variants as table
 use Rattle.carry.specs.declared.inputs.Sheets.{Sheets}
 use Rattle.carry.specs.declared.inputs.Sheets.the-variants as sheets
-use Rattle.carry.proofs.FirstLaws.{unless-then}
+use Rattle.carry.proofs.RowLaws.{unless-then}
 use Rattle.carry.proofs.TableLaws.{sheet-zeros, context-is}
 use Rattle.carry.proofs.BodyLaws.{refused}
 

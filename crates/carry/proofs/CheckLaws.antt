@@ -1,20 +1,20 @@
 -- One operand in the first pass, by its family. Assumes nothing.
-use mathlib.Core.Path.{_≡_, refl, ap, sym, _∙_}
-use mathlib.Core.Bool.{Bool, true, false}
+use mathlib.Core.Path.{_≡_, refl, ap, _∙_}
+use mathlib.Core.Bool.{true, false}
 use mathlib.Core.List.{List}
-use Prim.Native.Nat.{ℕ, zero, suc, _+_, _-_, _*_, _^_, _≤_, _<_}
+use Prim.Native.Nat.{ℕ, zero, suc, _-_}
 use native.Mathlib.Omega.{arith}
-use lib.Dec.{eqb, ltb}
+use lib.Dec.{eqb}
 use lib.ListN.{length, getD}
-use borrow.Author.Tests.{lt-ltb, le-ltb, eq-eqb, ne-eqb, ltb-true}
-use Rattle.lists.specs.Choice.{pick, both, within}
+use borrow.Author.Tests.{eq-eqb, ne-eqb, ltb-true}
+use Rattle.lists.specs.Choice.{within}
 use Rattle.lists.specs.Found.{Found}
 use Rattle.lists.specs.Found.Found.{found, missing}
 use Rattle.lists.proofs.Tests.{by-test, by-leb, within-low, within-high}
 use Rattle.answers.specs.Outcome.{Outcome}
 use Rattle.spec_sheet.specs.Types.{widthOf, familyOf}
 use Rattle.spec_sheet.specs.Sheet.{isMissing}
-use Rattle.spec_inputs.specs.Context.{hasText, textAt}
+use Rattle.spec_inputs.specs.Context.{hasText}
 use Rattle.spec_carry.specs.Cases.{unlessCase}
 use Rattle.spec_carry.specs.Passes.{Carrying, orZero, newId, oldTarget, fits, operandCases}
 use Rattle.carry.specs.Ids.{idMark, Translated}

@@ -10,7 +10,6 @@ use Rattle.spec_strings.specs.Table.{textOf, lookup}
 use Rattle.spec_strings.proofs.TableLaws.{lookup-there}
 use Rattle.slices.specs.Answers.{foundOf}
 use Rattle.slices.specs.declared.search.Found.{Found}
-use Rattle.slices.specs.declared.search.Found.the-variants.{At}
 use Rattle.carry.specs.Ids.{idMark, FoundBelow, Translated}
 use Rattle.carry.proofs.OpcodeLaws.{was-found}
 

@@ -4,11 +4,11 @@ pub mod PlaceLaws
 pub mod PlaceLoop
 pub mod TargetLaws
 pub mod CheckLaws
-pub mod FirstLaws
-pub mod FirstLoop
+pub mod RowLaws
+pub mod CarriedLaws
 pub mod WriteLaws
-pub mod SecondLaws
-pub mod SecondLoop
+pub mod OperandLoop
+pub mod InstructionLoop
 pub mod InputLaws
 pub mod TableLaws
 pub mod BodyLaws

@@ -1,70 +1,49 @@
--- Carrying a body, by what each pass answers. Assumes nothing.
+-- Carrying a body, by what its instructions and places answer. Assumes nothing.
 use mathlib.Core.Path.{_≡_, refl, ap, sym, _∙_}
-use mathlib.Core.List.{List, [], _∷_, _++_}
-use Prim.Native.Nat.{ℕ, _≤_, _<_}
+use mathlib.Core.List.{List, [], _∷_}
+use Prim.Native.Nat.{ℕ, _≤_}
 use native.Mathlib.Omega.{arith}
 use lib.ListN.{length, getD, replicate, length-replicate}
-use Rattle.lists.specs.Write.{Put}
 use Rattle.limits.specs.Limits.{bodyLimit}
 use Rattle.answers.specs.Report.{zeros}
 use Rattle.answers.specs.Refusals.{refusalReport}
-use Rattle.answers.specs.Outcome.{Outcome, Ended}
-use Rattle.answers.specs.Outcome.Outcome.{refusedWith}
+use Rattle.answers.specs.Outcome.{Ended}
 use Rattle.answers.specs.declared.refusal.Refusal.{Refusal}
 use Rattle.operation.specs.Ends.{measuredOf, leftBy, measuredReport}
 use Rattle.operation.specs.declared.ending.Measured.{Measured}
-use Rattle.spec_inputs.specs.Context.{Context, contextFrom}
-use Rattle.spec_body.specs.Decode.{Decoded, decodeBody}
-use Rattle.spec_body.specs.Decode.Decoded.{decoded, notDecoded}
-use Rattle.spec_carry.specs.Cases.{Case, unlessCase}
-use Rattle.spec_carry.specs.Passes.{firstPass, secondPass, newBytes}
-use Rattle.spec_carry.specs.Carry.{carrying, carryUnder}
-use Rattle.carry.specs.Places.{Mapped, PlacesMarked}
+use Rattle.spec_inputs.specs.Context.{contextFrom}
+use Rattle.spec_body.specs.Decode.{decodeBody}
+use Rattle.spec_body.specs.Decode.Decoded.{decoded}
+use Rattle.spec_carry.specs.Carry.{carryUnder}
+use Rattle.carry.specs.Places.{PlacesMarked}
 use Rattle.carry.specs.Places.PlacesMarked.{marked, refuses}
 use Rattle.carry.specs.Opcodes.{OpcodeRows, NewOpcodes, NewLengths}
 use Rattle.carry.specs.Ready.{ZerosBehind, Ready, carryingIn}
 use Rattle.carry.specs.Prepared.{Between, Prepared}
-use Rattle.carry.specs.Passed.{onPassed, BytesPut}
-use Rattle.carry.specs.Passed.BytesPut.{whole as put-whole, refuses as put-refuses}
-use Rattle.carry.specs.declared.first_pass.Passed.{Passed}
-use Rattle.carry.specs.declared.first_pass.Passed.the-variants as first
-use Rattle.carry.specs.declared.second_pass.Bytes.{Bytes}
-use Rattle.carry.specs.declared.second_pass.Bytes.the-variants as second
+use Rattle.carry.specs.Carried.{BytesCarried}
+use Rattle.carry.specs.Carried.BytesCarried.{whole, refuses as refuses-bytes}
+use Rattle.carry.specs.declared.instructions.Bytes.the-variants as bytes
 use Rattle.carry.specs.declared.places.Marked.the-variants.{Instructions, Refused}
-use Rattle.carry.proofs.BodyLaws.{not-decoded, first-refused, second-refused, written-end, refused}
+use Rattle.carry.proofs.BodyLaws.{not-decoded, pass-refused, written-end, refused}
 
 module _ {types types₂ rows : List (List ℕ)} {last : ℕ} {s map ids : List ℕ} (g : Ready types types₂ rows last s map ids) where
   decodes-from : decodeBody (g .from .types) last s ≡ decoded (g .records)
   decodes-from = rw (g .types-are) (g .decodes)
 
-  -- the first pass goes on
-  pub goes-on : {r : Passed} → ((cs : List Case) (rest : Outcome) → unlessCase (firstPass (carryingIn g) 0 (g .records) ++ cs) rest ≡ onPassed r (unlessCase cs rest)) → r ≡ first.All
-      → (cs : List Case) (rest : Outcome) → unlessCase (firstPass (carryingIn g) 0 (g .records) ++ cs) rest ≡ unlessCase cs rest
-  unfolding onPassed
-  goes-on h e cs rest = h cs rest ∙ ap (λ (q : Passed). onPassed q (unlessCase cs rest)) e
+  -- an instruction is refused, or all are written and measured
+  pub ends-refused : {before now room after : List ℕ} (x : Refusal) → BytesCarried (carryingIn g) (g .records) before now (bytes.Refused x) → after ≡ zeros before
+      → Ended (carryUnder (g .from) (g .into) last s) before room after (refusalReport x)
+  ends-refused x (whole k e q w) z = absurd (let y : _≡_ {A = ℕ} 0 1 = cc e in omega arith)
+  ends-refused x (refuses-bytes f e q) z =
+      let h : x ≡ f = cc e in
+      refused x (pass-refused (g .from) (g .into) last s (g .records) decodes-from x (rw h q)) z
 
-  -- the first pass refuses
-  pub ends-first : {r : Passed} {before room after : List ℕ} (x : Refusal) → ((cs : List Case) (rest : Outcome) → unlessCase (firstPass (carryingIn g) 0 (g .records) ++ cs) rest ≡ onPassed r (unlessCase cs rest))
-      → r ≡ first.Refused x → after ≡ zeros before → Ended (carryUnder (g .from) (g .into) last s) before room after (refusalReport x)
-  unfolding onPassed
-  ends-first x p e z =
-      refused x (first-refused (g .from) (g .into) last s (g .records) decodes-from x (λ cs rest. p cs rest ∙ ap (λ (q : Passed). onPassed q (unlessCase cs rest)) e)) z
-
-  module _ (p : (cs : List Case) (rest : Outcome) → unlessCase (firstPass (carryingIn g) 0 (g .records) ++ cs) rest ≡ unlessCase cs rest) where
-    -- the second pass refuses, or its bytes are measured
-    pub ends-second : {before now room after : List ℕ} (x : Refusal) → BytesPut (carryingIn g) (g .records) before now (second.Refused x) → after ≡ zeros before
-        → Ended (carryUnder (g .from) (g .into) last s) before room after (refusalReport x)
-    ends-second x (put-whole k e q w) z = absurd (let y : _≡_ {A = ℕ} 0 1 = cc e in omega arith)
-    ends-second x (put-refuses f e q) z =
-        let h : x ≡ f = cc e in
-        refused x (second-refused (g .from) (g .into) last s (g .records) decodes-from p x (rw h q)) z
-
-    pub ends-written : {before now after : List ℕ} (k n room : ℕ) (m : Measured) → BytesPut (carryingIn g) (g .records) before now (second.Written k) → n ≡ length (g .records)
-        → m ≡ measuredOf k 65536 n room (length now) → after ≡ leftBy m now → Ended (carryUnder (g .from) (g .into) last s) before (room ∷ []) after (measuredReport k m)
-    ends-written k n room m (put-whole j e q w) c l z =
-        let h : j ≡ k = cc (sym e) in
-        written-end (g .from) (g .into) last s (g .records) decodes-from p k n room m q (rw h at w) c l z
-    ends-written k n room m (put-refuses f e q) c l z = absurd (let y : _≡_ {A = ℕ} 0 1 = cc e in omega arith)
+  pub ends-written : {before now after : List ℕ} (k n room : ℕ) (m : Measured) → BytesCarried (carryingIn g) (g .records) before now (bytes.Written k) → n ≡ length (g .records)
+      → m ≡ measuredOf k 65536 n room (length now) → after ≡ leftBy m now → Ended (carryUnder (g .from) (g .into) last s) before (room ∷ []) after (measuredReport k m)
+  ends-written k n room m (whole j e q w) c l z =
+      let h : j ≡ k = cc (sym e) in
+      written-end (g .from) (g .into) last s (g .records) decodes-from q k n room m (rw h at w) c l z
+  ends-written k n room m (refuses-bytes f e q) c l z = absurd (let y : _≡_ {A = ℕ} 0 1 = cc e in omega arith)
 
 -- a body whose places are marked is ready, and counted
 module _ {types types₂ rows : List (List ℕ)} {last : ℕ} {ids : List ℕ} (g : Prepared types types₂ rows last ids) (s map : List ℕ) (few : length s ≤ bodyLimit) where
@@ -87,7 +66,7 @@ module _ {types types₂ rows : List (List ℕ)} {last : ℕ} {ids : List ℕ} (
           rows-are = b .rows-are;
           zeros = b .zeros;
           zeros₂ = b .zeros₂;
-          known = b .opcodes;
+          opcodes = b .opcodes;
           lengths = b .lengths;
           few = few;
           records = rs;

@@ -1,11 +1,10 @@
 -- The tables of both sheets, as both passes take them. Assumes nothing.
-use mathlib.Core.Path.{_≡_, refl, ap, sym, _∙_}
-use mathlib.Core.List.{List, [], _∷_, _++_}
-use Prim.Native.Nat.{ℕ, zero, suc, _+_, _-_, _≤_, _<_}
+use mathlib.Core.Path.{_≡_, refl}
+use mathlib.Core.List.{List, [], _++_}
+use Prim.Native.Nat.{ℕ, zero, suc, _+_, _-_, _≤_}
 use native.Mathlib.Omega.{arith}
 use lib.ListN.{length, getD, replicate, getD-replicate, List·getD-eq-default, length-replicate}
 use Rattle.lists.proofs.Tests.{by-leb}
-use Rattle.spec_sheet.specs.Line.{Op}
 use Rattle.spec_sheet.specs.Sheet.{Sheet, SheetRead, sheetAt, sheetOf, fill, typeRows, noTypeRows}
 use Rattle.spec_sheet.specs.Sheet.SheetRead.{sheet, malformed}
 use Rattle.spec_sheet.proofs.OpLaws.{TypeCodes}
@@ -13,7 +12,7 @@ use Rattle.spec_sheet.proofs.OpLaws.TypeCodes.{none, one}
 use Rattle.spec_sheet.proofs.RowLaws.{type-rows-length, sheet-types}
 use Rattle.spec_sheet.proofs.SheetLaws.{whole-sheet}
 use Rattle.spec_body.proofs.RowLaws.{GoodRow}
-use Rattle.spec_inputs.specs.Context.{Context, contextFrom}
+use Rattle.spec_inputs.specs.Context.{contextFrom}
 use Rattle.sheet.specs.Sheets.{typesIn, infosIn}
 use Rattle.spec_carry.specs.Carry.{contextIn}
 use Rattle.carry.specs.Ready.{ZerosBehind}

@@ -1,18 +1,15 @@
 -- The place that an Addr leads to, by the map of places. Assumes nothing.
 use mathlib.Core.Path.{_≡_, refl, ap, sym, _∙_}
-use mathlib.Core.Bool.{Bool, true, false}
+use mathlib.Core.Bool.{Bool, false}
 use mathlib.Core.List.{List, [], _∷_}
 use Prim.Native.Nat.{ℕ, suc, _+_, _-_, _*_, _^_, _≤_, _<_}
 use native.Mathlib.Omega.{arith}
-use lib.Dec.{eqb, ltb}
-use lib.ListN.{getD}
+use lib.Dec.{eqb}
 use borrow.Author.Tests.{lt-ltb, le-ltb, eq-eqb, ne-eqb}
-use Rattle.lists.specs.Choice.{pick}
-use Rattle.lists.specs.Found.{Found}
-use Rattle.lists.specs.Found.Found.{found, missing}
+use Rattle.lists.specs.Found.Found.{missing}
 use Rattle.lists.proofs.Tests.{by-leb, by-eqb}
 use Rattle.spec_sheet.specs.Types.{widthOf}
-use Rattle.spec_carry.specs.Meaning.{reaches, firstPlace, targetIn}
+use Rattle.spec_carry.specs.Meaning.{reaches, firstPlace}
 use Rattle.spec_carry.specs.Passes.{Carrying, oldTarget}
 use Rattle.carry.specs.Places.{placeMark, Mapped}
 use Rattle.carry.specs.Checks.{targetMark}

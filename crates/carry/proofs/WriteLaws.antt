@@ -1,7 +1,7 @@
 -- One operand in the second pass, by its family. Assumes nothing.
 use mathlib.Core.Path.{_≡_, refl, ap, sym, _∙_}
 use mathlib.Core.Bool.{true, false}
-use mathlib.Core.List.{List, [], _++_}
+use mathlib.Core.List.{List, []}
 use Prim.Native.Nat.{ℕ, _+_, _-_, _*_, _^_, _≤_, _<_}
 use native.Mathlib.Omega.{arith}
 use lib.Dec.{eqb, leb}
@@ -18,7 +18,7 @@ use Rattle.spec_sheet.specs.Types.{widthOf, familyOf}
 use Rattle.spec_sheet.proofs.TypeLaws.{family-address}
 use Rattle.spec_carry.specs.Cases.{Case, unlessCase}
 use Rattle.spec_carry.specs.Passes.{Carrying, orZero, near, newId, newPlace, oldTarget, operandCases, distanceBits, newBits}
-use Rattle.spec_carry.proofs.CaseLaws.{Passed, result-passed, passed-left}
+use Rattle.spec_carry.proofs.CaseLaws.{Passed, result-passed}
 use Rattle.spec_carry.proofs.ValueLaws.{Good, good-operand, is-found}
 use Rattle.carry.specs.Ids.{idMark, Translated}
 use Rattle.carry.specs.Places.{placeMark, Mapped}
@@ -32,10 +32,6 @@ use Rattle.carry.proofs.TargetLaws.{target-mark}
 -- cases that change no outcome: none holds
 pub none-holds : (cs : List Case) → ((rest : Outcome) → unlessCase cs rest ≡ rest) → Passed cs
 none-holds cs f = result-passed cs (produced 0 [] []) _ (f (produced 0 [] []))
-
-pub none-before : (cs : List Case) → ((ds : List Case) (rest : Outcome) → unlessCase (cs ++ ds) rest ≡ unlessCase ds rest) → Passed cs
-unfolding unlessCase
-none-before cs f = passed-left cs [] (none-holds (cs ++ []) (λ rest. f [] rest))
 
 -- how far it is on, and back
 module _ (at place : ℕ) where

@@ -9,8 +9,6 @@ use Rattle.answers.specs.Outcome.Outcome.{refusedWith}
 use Rattle.answers.specs.declared.refusal.Refusal.the-variants.{BadOperand}
 use Rattle.answers.specs.declared.refusal.OperandFault.the-variants.{NotCarried, Text, Address}
 use Rattle.spec_carry.specs.Passes.{fits}
-use Rattle.carry.specs.declared.first_pass.Operands.{Operands}
-use Rattle.carry.specs.declared.first_pass.Operands.the-variants as operands
 use Rattle.carry.specs.declared.operand_check.Checked.{Checked}
 use Rattle.carry.specs.declared.operand_check.Checked.the-variants.{Good, Refused}
 
@@ -40,8 +38,3 @@ targetMark w at bits map =
 
 abbrev pub targetChecked : ℕ → Checked
 targetChecked mark = pick (eqb mark 0) (Refused Address) Good
-
--- the operands of the instruction i: the refusal of the first that cannot be carried, or what follows
-unfoldable pub onOperands : Operands → ℕ → Outcome → Outcome
-onOperands operands.Good i rest = rest
-onOperands (operands.Refused f q) i rest = refusedWith (BadOperand f i q)

@@ -3,8 +3,8 @@ pub mod Ids
 pub mod Places
 pub mod Checks
 pub mod Ready
-pub mod Passed
 pub mod Writes
+pub mod Carried
 pub mod Inputs
 pub mod Prepared
 pub mod Answers

@@ -1,7 +1,7 @@
 -- What both passes over a body are given. Assumes nothing.
 use mathlib.Core.Path.{_≡_}
 use mathlib.Core.List.{List, []}
-use Prim.Native.Nat.{ℕ, _≤_, _<_}
+use Prim.Native.Nat.{ℕ, _≤_}
 use lib.ListN.{length, getD}
 use Rattle.limits.specs.Limits.{bodyLimit}
 use Rattle.spec_inputs.specs.Context.{Context}
@@ -9,7 +9,7 @@ use Rattle.spec_body.specs.Decode.{decodeBody}
 use Rattle.spec_body.specs.Decode.Decoded.{decoded}
 use Rattle.spec_carry.specs.Passes.{Carrying}
 use Rattle.spec_carry.specs.Carry.{carrying}
-use Rattle.carry.specs.Opcodes.{OpcodeRows, NewLengths}
+use Rattle.carry.specs.Opcodes.{OpcodeRows, NewOpcodes, NewLengths}
 use Rattle.carry.specs.Ids.{Translated}
 use Rattle.carry.specs.Places.{Mapped}
 
@@ -27,7 +27,7 @@ pub record Ready (types types₂ rows : List (List ℕ)) (last : ℕ) (s map ids
   pub rows-are : OpcodeRows from into last rows
   pub zeros : (op : ℕ) → ZerosBehind (getD types op [])
   pub zeros₂ : (op : ℕ) → ZerosBehind (getD types₂ op [])
-  pub known : (op : ℕ) → op < 256 → op ≤ last → getD (getD rows op []) 1 0 < 256
+  pub opcodes : NewOpcodes last rows
   pub lengths : NewLengths last rows
   pub few : length s ≤ bodyLimit
   pub records : List (List ℕ)

@@ -7,25 +7,25 @@ ghost use Rattle.limits.specs.Limits.{bodyLimit, stringLimit};
 ghost use Rattle.answers.specs.Report.{zeros, cleared};
 ghost use Rattle.answers.specs.Outcome.{Ended};
 ghost use Rattle.spec_inputs.specs.Context.{contextFrom};
-ghost use Rattle.strings.specs.Keys.{textBuckets};
+ghost use Rattle.strings.specs.Keys.{textBuckets, TextsIndexed};
 ghost use Rattle.spec_carry.specs.Carry as definition;
 ghost use Rattle.spec_carry.specs.Carry.{carryUnder};
 ghost use Rattle.carry.specs.Answers.{carryReport};
 ghost use Rattle.carry.specs.declared.answer.CarryAnswer.the-variants.{Refused};
 ghost use Rattle.carry.specs.Ready.{ZerosBehind, Ready};
+ghost use Rattle.carry.specs.Ids.{Translated};
 ghost use Rattle.carry.specs.Prepared.{Between, Prepared};
 use crate::answer::CarryAnswer;
-use crate::first_pass::Passed;
 use crate::ids::FEW_STRINGS;
 use crate::inputs::Inputs;
 use crate::inputs::Sheets;
+use crate::instructions::Bytes;
 use crate::places::Marked;
-use crate::second_pass::Bytes;
 use answers::refusal::Refusal;
 use slices::clearing::clear_labels;
 use slices::write::clear;
 
-// Carries a body whose places are marked: both passes, then the result is measured. `n` is the number of its instructions.
+// Carries a body whose places are marked, then measures the result. `n` is the number of its instructions.
 fn carry_marked(
     types: &[[u8; 8]; 256],
     types2: &[[u8; 8]; 256],
@@ -41,12 +41,7 @@ fn carry_marked(
     requires { ⌜ Ready (now types) (now types2) (now rows) last (now s) (now map) (now ids) ⌝ }
     ensures { λ r. ⌜ ((g : Ready (now (types .entry)) (now (types2 .entry)) (now (rows .entry)) last (now (s .entry)) (now (map .entry)) (now (ids .entry))) → n ≡ length (g .records) → Ended (carryUnder (g .«from») (g .into) last (now (s .entry))) (now (out .entry)) (lent ∷ []) (now (out .exit)) (carryReport r)) ⌝ }
 {
-    let p = crate::first_pass::check_instructions(types, types2, rows, last, s, map, ids);
-    if let Passed::Refused(x) = p {
-        clear(out);
-        return CarryAnswer::Refused(x);
-    }
-    let b = crate::second_pass::put_instructions(types, types2, rows, last, s, map, ids, out);
+    let b = crate::instructions::carry_instructions(types, types2, rows, last, s, map, ids, out);
     match b {
         Bytes::Written(k) => {
             let m = operation::ending::measure(k, limits::BODY_LIMIT, n, lent, out);
@@ -266,6 +261,8 @@ pub fn carry_within(
     requires { ⌜ (length (now s) ≤ bodyLimit) × (length (now ends2) ≤ stringLimit) × (length (now ids) ≡ length (now ends)) × (0 < textBuckets (now index)) × (textBuckets (now index) + length (now ends2) ≤ length (now index)) ⌝ }
     requires { ⌜ ((op : ℕ) → ZerosBehind (getD (now types) op [])) × ((op : ℕ) → ZerosBehind (getD (now types2) op [])) ⌝ }
     ensures { λ r. ⌜ Ended (carryUnder (contextFrom (now (sheet .entry)) (now (types .entry)) (now (ops .entry)) (now (bytes .entry)) (now (ends .entry))) (contextFrom (now (sheet2 .entry)) (now (types2 .entry)) (now (ops2 .entry)) (now (bytes2 .entry)) (now (ends2 .entry))) last (now (s .entry))) (now (out .entry)) (lent ∷ []) (now (out .exit)) (carryReport r) ⌝ }
+    ensures { λ _. ⌜ Translated (now (bytes .entry)) (now (ends .entry)) (now (bytes2 .entry)) (now (ends2 .entry)) (now (ids .exit)) ⌝ }
+    ensures { λ _. ⌜ TextsIndexed (now (bytes2 .entry)) (now (ends2 .entry)) (now (index .exit)) ⌝ }
 {
     strings::text_index::index_texts(bytes2, ends2, index);
     crate::ids::translate(bytes, ends, bytes2, ends2, index, ids);

@@ -1,11 +1,11 @@
 // Carrying: a body into the opcodes, operand widths and string ids of another sheet and string table.
 pub mod answer; // what carrying answers, and its numbers
 pub mod carry; // the operation
-pub mod first_pass; // 4 and 5 by instruction, then each operand
 pub mod ids; // the second table's id of each text of the first
 pub mod inputs; // 18, 17 and 1 of both sides, and the tables of both sheets
+pub mod instructions; // all instructions: both passes of document 01 in one loop
 pub mod opcodes; // the second sheet's opcode of each opcode of the first
+pub mod operand_carry; // one operand: read, checked and written
 pub mod operand_check; // one operand in the first pass: 16, 10, 7
 pub mod operand_write; // one operand in the second pass
 pub mod places; // where each instruction goes; 13 and 14
-pub mod second_pass; // the bytes of the result, and 8

@@ -238,8 +238,8 @@ fn print_body(
     }
 }
 
-// Prints what the job's body is carried to, from the inputs that were read to those that stand behind them. Inputs have at most
-// 4,355 lines.
+// Prints what the job's body is carried to, from the inputs that were read to those that stand behind them. The first inputs start
+// on line 2 and have at most 4,355 lines, so that the second start on line 4,357 at most.
 pub(crate) fn print_carry(
     job: &[u8],
     read: InputsRead,

@@ -40,14 +40,16 @@ pub(crate) fn which_job(s: &[u8]) -> Asked
     Asked::Other
 }
 
-// Space for a job's strings, or for its body: two digits make a byte, so that half of the job's limit is enough. No contract,
-// since the functions below say what they leave.
-pub(crate) fn string_space() -> [u8; 32768] {
-    [0; 32768]
+// The most bytes that a job can write in hex: two digits make a byte.
+const HEX_BYTES: usize = limits::JOB_LIMIT / 2;
+
+// Space for a job's strings, or for its body. No contract, since the functions below say what they leave.
+pub(crate) fn string_space() -> [u8; HEX_BYTES] {
+    [0; HEX_BYTES]
 }
 
-pub(crate) fn body_space() -> [u8; 32768] {
-    [0; 32768]
+pub(crate) fn body_space() -> [u8; HEX_BYTES] {
+    [0; HEX_BYTES]
 }
 
 pub(crate) fn end_space() -> [u32; limits::JOB_STRING_LIMIT] {

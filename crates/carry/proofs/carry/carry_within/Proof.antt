@@ -35,7 +35,8 @@ returns c =
     let p = c .before .before .before .before .before .before .before .before .before .before .before .before .before .before .before .before .before .before .before .before .before .before .before .before .before .before .pre in
     let r = c .before .before .before .before .before .before .rows-between .ensures in
     let b = between (x .sheet .now) (x .types .now) (x .ops .now) (x .bytes .now) (x .ends .now) (x .sheet2 .now) (x .types2 .now) (x .ops2 .now) (x .bytes2 .now) (x .ends2 .now) _ _ (r .0) (r .1 .0) (r .1 .1) (p .1 .0) (p .1 .1) in
-    c .before .before .carry-body .ensures (record { bytes₁ = _; ends₁ = _; bytes₂ = _; ends₂ = _; contexts = b; translated = c .before .before .before .before .before .before .before .before .before .translate .ensures })
+    let t = c .before .before .before .before .before .before .before .before .before .translate .ensures in
+    (c .before .before .carry-body .ensures (record { bytes₁ = _; ends₁ = _; bytes₂ = _; ends₂ = _; contexts = b; translated = t }), (t, c .before .before .before .before .before .before .before .before .before .before .before .before .before .before .index-texts .ensures))
 
 pub carry-within-spec : {M : Type 1} → statement M
 carry-within-spec =

@@ -1,0 +1,378 @@
+-- The loop over the instructions of a body, in both passes. Assumes nothing.
+use mathlib.Core.Path.{_≡_, refl, ap, sym, _∙_}
+use mathlib.Core.Bool.{true, false}
+use mathlib.Core.List.{List, [], _∷_, _++_, append-assoc, append-nil}
+use Prim.Native.Nat.{ℕ, suc, _+_, _*_, _≤_, _<_}
+use native.Mathlib.Numerals.{add-one}
+use native.Mathlib.Omega.{arith}
+use lib.Dec.{eqb}
+use lib.ListN.{length, drop, getD}
+use lib.Seq.{drop-drop, getD-drop}
+use borrow.Author.Tests.{eq-eqb, ne-eqb}
+use Rattle.lists.specs.Found.{Found}
+use Rattle.lists.specs.Found.Found.{found, missing}
+use Rattle.lists.specs.Write.{Put, top}
+use Rattle.lists.proofs.Tests.{by-eqb}
+use Rattle.lists.proofs.Writes.{_then_, same-piece, wrote-none, kept-length}
+use Rattle.answers.specs.Outcome.{Outcome}
+use Rattle.answers.specs.Outcome.Outcome.{refusedWith}
+use Rattle.answers.specs.declared.refusal.OperandFault.{OperandFault}
+use Rattle.answers.specs.declared.refusal.OperandFault.the-variants.{Distance}
+use Rattle.answers.specs.declared.refusal.Refusal.{Refusal}
+use Rattle.answers.specs.declared.refusal.Refusal.the-variants.{UnknownName, OperandCount, BadOperand}
+use Rattle.spec_sheet.specs.Row.{lengthOf, countOf}
+use Rattle.spec_sheet.specs.Sheet.{isMissing}
+use Rattle.spec_body.specs.Record.{recordOf, offsetOf, opcodeOf, pairsOf}
+use Rattle.spec_body.specs.Decode.{rowAt}
+use Rattle.spec_body.proofs.DecodeLaws.{Decoding, body-stands}
+use Rattle.spec_body.proofs.DecodeLaws.Decoding.{ended, more}
+use Rattle.spec_carry.specs.Cases.{Case, unlessCase}
+use Rattle.spec_carry.specs.Passes.{Carrying, opcodeInto, newOpcode, oldRow, newRow, movedFrom, operandsCases, farCases, newOperands, firstPass, secondPass, newBytes}
+use Rattle.carry.specs.Opcodes.{stateOf}
+use Rattle.carry.specs.Ready.{Ready, carryingIn}
+use Rattle.carry.specs.Carried.{OperandsCarried, keepFirst, endedWith, BytesCarried}
+use Rattle.carry.specs.Carried.OperandsCarried.{all-near, some-far, some-refused}
+use Rattle.carry.specs.Carried.BytesCarried.{whole, refuses}
+use Rattle.carry.specs.declared.instructions.Operands.{Operands}
+use Rattle.carry.specs.declared.instructions.Operands.the-variants.{Done, Refused}
+use Rattle.carry.specs.declared.instructions.Bytes.{Bytes}
+use Rattle.carry.specs.declared.instructions.Bytes.the-variants as bytes
+use Rattle.carry.specs.declared.instructions.Far.{Far}
+use Rattle.carry.proofs.OperandLoop.{Promised}
+use Rattle.carry.proofs.PlaceLoop.{length-is, new-length-is}
+
+-- what an opcode's state says
+module _ (m n : ℕ) where
+  state-missing : (f : Found) → stateOf f m n ≡ 0 → isMissing f ≡ true
+  unfolding stateOf isMissing
+  state-missing (found k) e =
+      absurd (by-eqb m n (λ q. omega (arith, rw (eq-eqb m n q) at e)) (λ q. omega (arith, rw (ne-eqb m n q) at e)))
+  state-missing missing e = refl
+
+  state-found : (f : Found) → (stateOf f m n ≡ 0 → ⊥) → isMissing f ≡ false
+  unfolding stateOf isMissing
+  state-found (found k) e = refl
+  state-found missing e = absurd (e refl)
+
+  state-other : (f : Found) → (stateOf f m n ≡ 0 → ⊥) → (stateOf f m n ≡ 2 → ⊥) → eqb m n ≡ false
+  unfolding stateOf
+  state-other (found k) e h = by-eqb m n (λ q. absurd (h (rw (eq-eqb m n q)))) (λ q. ne-eqb m n q)
+  state-other missing e h = absurd (e refl)
+
+  state-known : (f : Found) → stateOf f m n ≡ 2 → m ≡ n
+  unfolding stateOf
+  state-known (found k) e = by-eqb m n (λ q. q) (λ q. absurd (omega (arith, rw (ne-eqb m n q) at e)))
+  state-known missing e = absurd (omega (arith, e))
+
+-- one instruction first in the first pass: its name, its operand count, then its operands
+module _ (x : Carrying) (i : ℕ) (r : List ℕ) (rs : List (List ℕ)) (cs : List Case) (rest : Outcome) where
+  abbrev name : Found
+  name = opcodeInto (x .from) (x .into) (opcodeOf r)
+
+  first-missing : isMissing name ≡ true → unlessCase (firstPass x i (r ∷ rs) ++ cs) rest ≡ refusedWith (UnknownName i)
+  unfolding unlessCase firstPass
+  first-missing e = rw e
+
+  first-other : isMissing name ≡ false → eqb (countOf (oldRow (x .from) r)) (countOf (newRow (x .from) (x .into) r)) ≡ false
+      → unlessCase (firstPass x i (r ∷ rs) ++ cs) rest ≡ refusedWith (OperandCount i)
+  unfolding unlessCase firstPass
+  first-other e h = rw (e, h)
+
+  first-known : isMissing name ≡ false → countOf (oldRow (x .from) r) ≡ countOf (newRow (x .from) (x .into) r) → (old new : List ℕ) → oldRow (x .from) r ≡ old → newRow (x .from) (x .into) r ≡ new
+      → unlessCase (firstPass x i (r ∷ rs) ++ cs) rest ≡ unlessCase (operandsCases x i (offsetOf r) 1 old new (pairsOf r) ++ (firstPass x (suc i) rs ++ cs)) rest
+  unfolding unlessCase firstPass
+  first-known e h old new p q =
+      rw (e, eq-eqb (countOf (oldRow (x .from) r)) (countOf (newRow (x .from) (x .into) r)) h, p, q)
+      (ap (λ (l : List Case). unlessCase l rest) (append-assoc (operandsCases x i (offsetOf r) 1 old new (pairsOf r)) (firstPass x (suc i) rs) cs))
+
+-- the instruction at a place, where records stand
+pub record Next (types : List (List ℕ)) (last : ℕ) (s : List ℕ) (at : ℕ) (rs : List (List ℕ)) : Type 0 where
+  pub small : getD s at 0 ≤ last
+  pub room : at + lengthOf (rowAt types s at) ≤ length s
+  pub others : List (List ℕ)
+  pub are : rs ≡ recordOf (rowAt types s at) s at ∷ others
+  pub stands : Decoding types last s (at + lengthOf (rowAt types s at)) others
+
+pub next : {types : List (List ℕ)} {last : ℕ} {s : List ℕ} {at : ℕ} {rs : List (List ℕ)} → at < length s → Decoding types last s at rs → Next types last s at rs
+next h (ended g) = absurd (omega arith)
+next h (more {rs = others} g l k d) = record { small = l; room = k; others = others; are = refl; stands = d }
+
+pub none-left : {types : List (List ℕ)} {last : ℕ} {s : List ℕ} {at : ℕ} {rs : List (List ℕ)} → length s ≤ at → Decoding types last s at rs → rs ≡ []
+none-left h (ended g) = refl
+none-left h (more g l k d) = absurd (omega arith)
+
+-- one instruction first in the second pass, with its types under both sheets
+module _ (x : Carrying) (i : ℕ) (r : List ℕ) (rs : List (List ℕ)) (old row′ : List ℕ) (p : oldRow (x .from) r ≡ old) (q : newRow (x .from) (x .into) r ≡ row′) where
+  first-far : (cs : List Case) (rest : Outcome) → unlessCase (secondPass x i (r ∷ rs) ++ cs) rest ≡ unlessCase (farCases x i (offsetOf r) 1 old row′ (pairsOf r) ++ (secondPass x (suc i) rs ++ cs)) rest
+  unfolding secondPass
+  first-far cs rest = rw (p, q) (ap (λ (l : List Case). unlessCase l rest) (append-assoc (farCases x i (offsetOf r) 1 old row′ (pairsOf r)) (secondPass x (suc i) rs) cs))
+
+  first-bytes : (new op : ℕ) → new ≡ getD (x .moved) i 0 → op ≡ newOpcode (x .from) (x .into) r → newBytes x i (r ∷ rs) ≡ (op ∷ newOperands x (offsetOf r) new old row′ (pairsOf r)) ++ newBytes x (suc i) rs
+  unfolding newBytes
+  first-bytes new op e f = rw (e, f, p, q)
+
+-- where the instructions from the i-th on go, the first to `new`
+moved-here : (x : Carrying) (i new : ℕ) (rs : List (List ℕ)) → drop i (x .moved) ≡ movedFrom (x .from) (x .into) new rs → new ≡ getD (x .moved) i 0
+unfolding movedFrom
+moved-here x i new [] e = let z : i + 0 ≡ i = omega arith in sym (rw z at (sym (getD-drop i (x .moved) 0 0) ∙ ap (λ (l : List ℕ). getD l 0 0) e))
+moved-here x i new (r ∷ rs) e = let z : i + 0 ≡ i = omega arith in sym (rw z at (sym (getD-drop i (x .moved) 0 0) ∙ ap (λ (l : List ℕ). getD l 0 0) e))
+
+moved-next : (x : Carrying) (i new : ℕ) (r : List ℕ) (rs : List (List ℕ)) → drop i (x .moved) ≡ movedFrom (x .from) (x .into) new (r ∷ rs)
+    → drop (i + 1) (x .moved) ≡ movedFrom (x .from) (x .into) (new + lengthOf (newRow (x .from) (x .into) r)) rs
+unfolding movedFrom
+moved-next x i new r rs e = sym (drop-drop 1 i (x .moved)) ∙ ap (drop 1) e
+
+-- the first 8
+module _ (far : Far) (i q : ℕ) where
+  keep-new : far .operand ≡ 0 → keepFirst far i q ≡ record { instruction = i; operand = q }
+  unfolding keepFirst
+  keep-new e = rw e
+
+  keep-old : (far .operand ≡ 0 → ⊥) → keepFirst far i q ≡ far
+  unfolding keepFirst
+  keep-old n = rw (ne-eqb (far .operand) 0 n)
+
+module _ (types types₂ rows : List (List ℕ)) (last : ℕ) (s map ids out₀ : List ℕ) where
+  -- what an answer says of all instructions
+  abbrev AllPromised : List ℕ → Bytes → Type 0
+  AllPromised out r = (g : Ready types types₂ rows last s map ids) → BytesCarried (carryingIn g) (g .records) out₀ out r
+
+  -- what the second pass has done: it wrote all instructions before the i-th, or `far` is the first 8 among them; those left have
+  -- the records rs
+  data Written (g : Ready types types₂ rows last s map ids) (rs : List (List ℕ)) (out : List ℕ) (k i : ℕ) (far : Far) : Type 0 where
+    wrote-all : far .operand ≡ 0 → (seen : List ℕ) → Put out₀ 0 seen out k → newBytes (carryingIn g) 0 (g .records) ≡ seen ++ newBytes (carryingIn g) i rs
+        → ((cs : List Case) (rest : Outcome) → unlessCase (secondPass (carryingIn g) 0 (g .records) ++ cs) rest ≡ unlessCase (secondPass (carryingIn g) i rs ++ cs) rest)
+        → Written g rs out k i far
+    met-far : (far .operand ≡ 0 → ⊥)
+        → ((cs : List Case) (rest : Outcome) → unlessCase (secondPass (carryingIn g) 0 (g .records) ++ cs) rest ≡ refusedWith (BadOperand Distance (far .instruction) (far .operand)))
+        → Written g rs out k i far
+
+  -- and the first pass: the instructions before the i-th pass; the i-th goes to `new`
+  record Midway (g : Ready types types₂ rows last s map ids) (out : List ℕ) (k new i : ℕ) (far : Far) (at : ℕ) : Type 0 where
+    rs : List (List ℕ)
+    stands : Decoding types last s at rs
+    checked : (cs : List Case) (rest : Outcome) → unlessCase (firstPass (carryingIn g) 0 (g .records) ++ cs) rest ≡ unlessCase (firstPass (carryingIn g) i rs ++ cs) rest
+    written : Written g rs out k i far
+    moved : drop i (carryingIn g .moved) ≡ movedFrom (g .from) (g .into) new rs
+
+  pub record Going (out : List ℕ) (k new i : ℕ) (far : Far) (at : ℕ) : Type 0 where
+    pub below : i ≤ at
+    pub inside : at ≤ length s
+    pub small : new ≤ 65 * at
+    pub same : length out ≡ length out₀
+    midway : (g : Ready types types₂ rows last s map ids) → Midway g out k new i far at
+
+  pub start : (far : Far) → far .operand ≡ 0 → length out₀ ≤ top → Going out₀ 0 0 0 far 0
+  start far e h = record {
+    below = omega arith;
+    inside = omega arith;
+    small = omega arith;
+    same = refl;
+    midway = λ g. record {
+      rs = g .records;
+      stands = body-stands types last s (g .records) (g .decodes);
+      checked = λ cs rest. refl;
+      written = wrote-all e [] (wrote-none h (omega arith)) refl (λ cs rest. refl);
+      moved = refl;
+    };
+  }
+
+  module _ (out : List ℕ) (k new i : ℕ) (far : Far) (at : ℕ) (going : Going out k new i far at) where
+    -- at the end
+    pub all-done : length s ≤ at → AllPromised out (endedWith k far)
+    unfolding firstPass secondPass newBytes endedWith
+    all-done h g = go (m .written)
+      where
+        m : Midway g out k new i far at
+        m = going .midway g
+
+        e : m .rs ≡ []
+        e = none-left h (m .stands)
+
+        passes : (cs : List Case) (rest : Outcome) → unlessCase (firstPass (carryingIn g) 0 (g .records) ++ cs) rest ≡ unlessCase cs rest
+        passes cs rest = m .checked cs rest ∙ ap (λ (l : List (List ℕ)). unlessCase (firstPass (carryingIn g) i l ++ cs) rest) e
+
+        go : Written g (m .rs) out k i far → BytesCarried (carryingIn g) (g .records) out₀ out (endedWith k far)
+        go (wrote-all z seen put bs near) =
+            whole k (rw z)
+            (λ cs rest. passes _ rest ∙ (near cs rest ∙ ap (λ (l : List (List ℕ)). unlessCase (secondPass (carryingIn g) i l ++ cs) rest) e))
+            (same-piece (sym (bs ∙ (ap (λ (l : List (List ℕ)). seen ++ newBytes (carryingIn g) i l) e ∙ append-nil seen))) put)
+        go (met-far n f) = refuses (BadOperand Distance (far .instruction) (far .operand)) (rw (ne-eqb (far .operand) 0 n)) (λ cs rest. passes _ rest ∙ f cs rest)
+
+    module _ (h : at < length s) (u : getD s at 0 < 256) where
+      -- its opcode, the row of that, and its types under both sheets
+      abbrev op : ℕ
+      op = getD s at 0
+
+      abbrev row : List ℕ
+      row = getD rows op []
+
+      abbrev old : List ℕ
+      old = getD types op []
+
+      abbrev row′ : List ℕ
+      row′ = getD types₂ (getD row 1 0) []
+
+      -- its new opcode, and where it ends
+      pub record Here : Type 0 where
+        pub known : getD row 1 0 < 256
+        pub room : at + lengthOf old ≤ length s
+        pub some : 1 ≤ getD row 2 0
+        pub next : at + getD row 2 0 ≤ length s
+        pub most : getD row 3 0 ≤ 65
+
+      module _ (g : Ready types types₂ rows last s map ids) where
+        abbrev m : Midway g out k new i far at
+        m = going .midway g
+
+        abbrev instruction : Next types last s at (m .rs)
+        instruction = next h (m .stands)
+
+        abbrev record-here : List ℕ
+        record-here = recordOf (rowAt types s at) s at
+
+        -- its name in the second sheet
+        abbrev name-found : Found
+        name-found = opcodeInto (g .from) (g .into) op
+
+        opcode-is : getD row 1 0 ≡ newOpcode (g .from) (g .into) record-here
+        opcode-is = ap (λ (l : List ℕ). getD l 1 0) (g .rows-are op u (instruction .small))
+
+        old-is : oldRow (g .from) record-here ≡ old
+        old-is = ap (λ (t : List (List ℕ)). getD t op []) (g .types-are)
+
+        new-is : newRow (g .from) (g .into) record-here ≡ row′
+        new-is = ap (λ (t : List (List ℕ)). getD t (newOpcode (g .from) (g .into) record-here) []) (g .types₂-are) ∙ ap (λ (n : ℕ). getD types₂ n []) (sym opcode-is)
+
+        abbrev counts : ℕ
+        counts = countOf (oldRow (g .from) record-here)
+
+        abbrev counts′ : ℕ
+        counts′ = countOf (newRow (g .from) (g .into) record-here)
+
+        state-is : getD row 0 0 ≡ stateOf name-found counts counts′
+        state-is = ap (λ (l : List ℕ). getD l 0 0) (g .rows-are op u (instruction .small))
+
+        length-here : getD row 2 0 ≡ lengthOf old
+        length-here = length-is (g .from) (g .into) last rows (g .rows-are) op u (instruction .small) ∙ ap lengthOf old-is
+
+        pub here : Here
+        here = record {
+          known = g .opcodes op u (instruction .small);
+          room = instruction .room;
+          some = omega (arith, length-here);
+          next = omega (arith, length-here, instruction .room);
+          most = g .lengths op u (instruction .small);
+        }
+
+        -- the first pass goes on from here
+        from-here : (cs : List Case) (rest : Outcome) → unlessCase (firstPass (carryingIn g) 0 (g .records) ++ cs) rest
+            ≡ unlessCase (firstPass (carryingIn g) i (record-here ∷ instruction .others) ++ cs) rest
+        from-here cs rest = m .checked cs rest ∙ ap (λ (l : List (List ℕ)). unlessCase (firstPass (carryingIn g) i l ++ cs) rest) (instruction .are)
+
+        refused-here : (f : Refusal) → ((cs : List Case) (rest : Outcome) → unlessCase (firstPass (carryingIn g) i (record-here ∷ instruction .others) ++ cs) rest ≡ refusedWith f)
+            → (out′ : List ℕ) → BytesCarried (carryingIn g) (g .records) out₀ out′ (bytes.Refused f)
+        refused-here f e out′ = refuses f refl (λ cs rest. from-here _ rest ∙ e _ rest)
+
+        -- its name is known, with as many operands
+        module _ (e : getD row 0 0 ≡ 2) where
+          same-count : counts ≡ counts′
+          same-count = state-known counts counts′ name-found (sym state-is ∙ e)
+
+          over-operands : (cs : List Case) (rest : Outcome) → unlessCase (firstPass (carryingIn g) i (record-here ∷ instruction .others) ++ cs) rest
+              ≡ unlessCase (operandsCases (carryingIn g) i at 1 old row′ (pairsOf record-here) ++ (firstPass (carryingIn g) (suc i) (instruction .others) ++ cs)) rest
+          over-operands cs rest =
+              first-known (carryingIn g) i record-here (instruction .others) cs rest
+              (state-found counts counts′ name-found (λ z. omega (arith, e, state-is, z))) same-count old row′ old-is new-is
+
+          new-is-here : new ≡ getD (carryingIn g .moved) i 0
+          new-is-here = moved-here (carryingIn g) i new (m .rs) (m .moved)
+
+          -- what was said of its operands
+          operands-said : (out₁ : List ℕ) (b : ℕ) (out′ : List ℕ) (r : Operands) → Promised old row′ s at new map ids out₁ b out′ r
+              → OperandsCarried (carryingIn g) i at new old row′ (pairsOf record-here) out₁ b out′ r
+          operands-said out₁ b out′ r said =
+              said (carryingIn g) i (g .mapped) (g .translated) (g .zeros op) (g .zeros₂ (getD row 1 0)) (rw (old-is, new-is) at same-count) new-is-here
+
+          bad-here : (out₁ : List ℕ) (b : ℕ) (out′ : List ℕ) (f : OperandFault) (q : ℕ) → OperandsCarried (carryingIn g) i at new old row′ (pairsOf record-here) out₁ b out′ (Refused f q)
+              → BytesCarried (carryingIn g) (g .records) out₀ out′ (bytes.Refused (BadOperand f i q))
+          bad-here out₁ b out′ f q (all-near n z a c w) = absurd (let y : _≡_ {A = ℕ} 0 1 = cc z in omega arith)
+          bad-here out₁ b out′ f q (some-far n v z a c) = absurd (let y : _≡_ {A = ℕ} 0 1 = cc z in omega arith)
+          bad-here out₁ b out′ f q (some-refused f′ q′ z a) =
+              let y : f′ ≡ f = cc z in
+              let w : q′ ≡ q = cc z in
+              refused-here (BadOperand f i q) (λ cs rest. over-operands cs rest ∙ (a _ rest ∙ rw (y, w))) out′
+
+          passes-here : (out₁ : List ℕ) (b : ℕ) (out′ : List ℕ) (k′ q : ℕ) → OperandsCarried (carryingIn g) i at new old row′ (pairsOf record-here) out₁ b out′ (Done k′ q)
+              → (cs : List Case) (rest : Outcome) → unlessCase (operandsCases (carryingIn g) i at 1 old row′ (pairsOf record-here) ++ cs) rest ≡ unlessCase cs rest
+          passes-here out₁ b out′ k′ q (all-near n z a c w) = a
+          passes-here out₁ b out′ k′ q (some-far n v z a c) = a
+          passes-here out₁ b out′ k′ q (some-refused f q′ z a) = absurd (let y : _≡_ {A = ℕ} 0 1 = cc z in omega arith)
+
+          -- the second pass goes on from here
+          far-first : (cs : List Case) (rest : Outcome) → unlessCase (secondPass (carryingIn g) i (m .rs) ++ cs) rest
+              ≡ unlessCase (farCases (carryingIn g) i at 1 old row′ (pairsOf record-here) ++ (secondPass (carryingIn g) (suc i) (instruction .others) ++ cs)) rest
+          far-first cs rest =
+              ap (λ (l : List (List ℕ)). unlessCase (secondPass (carryingIn g) i l ++ cs) rest) (instruction .are)
+              ∙ first-far (carryingIn g) i record-here (instruction .others) old row′ old-is new-is cs rest
+
+          written-next : (out₁ : List ℕ) (b : ℕ) (out′ : List ℕ) (k′ q : ℕ) → Put out k (getD row 1 0 ∷ []) out₁ b → OperandsCarried (carryingIn g) i at new old row′ (pairsOf record-here) out₁ b out′ (Done k′ q)
+              → Written g (m .rs) out k i far → Written g (instruction .others) out′ k′ (suc i) (keepFirst far i q)
+          written-next out₁ b out′ k′ q byte o (met-far n f) = rw (keep-old far i q n) (met-far n f)
+          written-next out₁ b out′ k′ q byte (all-near n z a c w) (wrote-all e′ seen put bs near) =
+              let y : n ≡ k′ = cc z in
+              let v : q ≡ 0 = cc z in
+              let piece = getD row 1 0 ∷ newOperands (carryingIn g) at new old row′ (pairsOf record-here) in
+              rw (keep-new far i q e′)
+              (wrote-all v (seen ++ piece) (put then (byte then (rw y at w)))
+              (bs ∙ (ap (λ (l : List (List ℕ)). seen ++ newBytes (carryingIn g) i l) (instruction .are)
+              ∙ (ap (λ (l : List ℕ). seen ++ l) (first-bytes (carryingIn g) i record-here (instruction .others) old row′ old-is new-is new (getD row 1 0) new-is-here opcode-is)
+              ∙ sym (append-assoc seen piece _))))
+              (λ cs rest. near cs rest ∙ (far-first cs rest ∙ c _ rest)))
+          written-next out₁ b out′ k′ q byte (some-far n v z a c) (wrote-all e′ seen put bs near) =
+              let w : q ≡ suc v = cc z in
+              rw (keep-new far i q e′)
+              (met-far (λ y. omega (arith, w, y)) (λ cs rest. near cs rest ∙ (far-first cs rest ∙ (c _ rest ∙ rw w))))
+          written-next out₁ b out′ k′ q byte (some-refused f q′ z a) (wrote-all e′ seen put bs near) = absurd (let y : _≡_ {A = ℕ} 0 1 = cc z in omega arith)
+
+          midway-next : (out₁ : List ℕ) (b : ℕ) (out′ : List ℕ) (k′ q : ℕ) → Put out k (getD row 1 0 ∷ []) out₁ b → OperandsCarried (carryingIn g) i at new old row′ (pairsOf record-here) out₁ b out′ (Done k′ q)
+              → Midway g out′ k′ (new + getD row 3 0) (i + 1) (keepFirst far i q) (at + getD row 2 0)
+          midway-next out₁ b out′ k′ q byte o =
+              let length₃ : getD row 3 0 ≡ lengthOf (newRow (g .from) (g .into) record-here) = new-length-is (g .from) (g .into) last rows (g .rows-are) op u (instruction .small) in
+              record {
+                rs = instruction .others;
+                stands = rw length-here (instruction .stands);
+                checked = λ cs rest. from-here cs rest ∙ (over-operands cs rest ∙ (passes-here out₁ b out′ k′ q o _ rest ∙ rw (add-one i)));
+                written = rw (add-one i) (written-next out₁ b out′ k′ q byte o (m .written));
+                moved = rw length₃ (moved-next (carryingIn g) i new record-here (instruction .others) (rw (instruction .are) at (m .moved)));
+              }
+
+      -- 4: the second sheet lacks its name
+      pub unknown : getD row 0 0 ≡ 0 → AllPromised out (bytes.Refused (UnknownName i))
+      unknown e g =
+          refused-here g (UnknownName i)
+          (λ cs rest. first-missing (carryingIn g) i _ _ cs rest (state-missing (counts g) (counts′ g) (name-found g) (sym (state-is g) ∙ e))) out
+
+      -- 5: it has the name with another number of operands
+      pub other-count : (getD row 0 0 ≡ 0 → ⊥) → (getD row 0 0 ≡ 2 → ⊥) → AllPromised out (bytes.Refused (OperandCount i))
+      other-count e f g =
+          refused-here g (OperandCount i)
+          (λ cs rest. first-other (carryingIn g) i _ _ cs rest
+          (state-found (counts g) (counts′ g) (name-found g) (λ z. e (state-is g ∙ z)))
+          (state-other (counts g) (counts′ g) (name-found g) (λ z. e (state-is g ∙ z)) (λ z. f (state-is g ∙ z)))) out
+
+      -- its opcode was written at k, and then its operands were carried
+      module _ (e : getD row 0 0 ≡ 2) (out₁ : List ℕ) (b : ℕ) (byte : Put out k (getD row 1 0 ∷ []) out₁ b) (out′ : List ℕ) (r : Operands) (said : Promised old row′ s at new map ids out₁ b out′ r) where
+        -- an operand that cannot be carried
+        pub bad : (f : OperandFault) (q : ℕ) → r ≡ Refused f q → AllPromised out′ (bytes.Refused (BadOperand f i q))
+        bad f q v g = bad-here g e out₁ b out′ f q (rw v at (operands-said g e out₁ b out′ r said))
+
+        pub turn : Ready types types₂ rows last s map ids → length out′ ≡ length out₁ → (k′ q : ℕ) → r ≡ Done k′ q → (far′ : Far) → far′ ≡ keepFirst far i q
+            → Going out′ k′ (new + getD row 3 0) (i + 1) far′ (at + getD row 2 0)
+        turn g₀ l k′ q v far′ w = record {
+          below = omega (arith, here g₀ .some, going .below);
+          inside = here g₀ .next;
+          small = omega (arith, here g₀ .some, here g₀ .most, going .small);
+          same = l ∙ (kept-length byte ∙ going .same);
+          midway = λ g. rw w (midway-next g e out₁ b out′ k′ q byte (rw v at (operands-said g e out₁ b out′ r said)));
+        }

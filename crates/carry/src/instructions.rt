@@ -1,0 +1,166 @@
+// Both passes of document 01 in one loop over the instructions: a refusal of the first pass is answered where it is met, and the
+// first 8, which belongs to the second, is kept until the first pass is over.
+ghost use mathlib.Core.Path.{_≡_};
+ghost use Prim.Native.Nat.{ℕ, _+_, _^_, _<_, _≤_};
+ghost use lib.ListN.{length, getD};
+ghost use Rattle.limits.specs.Limits.{bodyLimit};
+ghost use Rattle.spec_sheet.specs.Row.{lengthOf, countOf};
+ghost use Rattle.spec_body.specs.Record.{pairs};
+ghost use Rattle.spec_carry.specs.Passes.{Carrying};
+ghost use Rattle.carry.specs.Ids.{Translated};
+ghost use Rattle.carry.specs.Places.{Mapped};
+ghost use Rattle.carry.specs.Ready.{ZerosBehind, Ready, carryingIn};
+ghost use Rattle.carry.specs.Carried.{firstFar, OperandsCarried, keepFirst, endedWith, BytesCarried};
+use crate::opcodes::KNOWN;
+use crate::opcodes::LENGTH;
+use crate::opcodes::MISSING;
+use crate::opcodes::NEW_LENGTH;
+use crate::opcodes::OPCODE;
+use crate::opcodes::STATE;
+use crate::operand_carry::Carried;
+use answers::refusal::OperandFault;
+use answers::refusal::Refusal;
+use slices::write::put_byte;
+
+// The next place in the output and the first operand that does not reach its target, counted from 1, or 0 where all do; or what
+// is wrong with which operand.
+pub enum Operands {
+    Done(usize, usize),
+    Refused(OperandFault, usize),
+}
+
+// How many bytes the result has, or the first refusal.
+pub enum Bytes {
+    Written(usize),
+    Refused(Refusal),
+}
+
+// The first operand that does not reach its target, where `far` is that of the operands before q.
+fn first_far(far: usize, is_far: bool, q: usize) -> usize
+    ensures { λ r. ⌜ r ≡ firstFar far «is_far» q ⌝ }
+{
+    if far != 0 {
+        return far;
+    }
+    if is_far { q } else { 0 }
+}
+
+// Carries the operands of the instruction that stood at `at` and stands at `new`, which have these types under the two sheets.
+fn carry_operands(
+    row: [u8; 8],
+    row2: [u8; 8],
+    s: &[u8],
+    at: usize,
+    new: usize,
+    map: &[u32],
+    ids: &[u32],
+    out: &mut [u8],
+    k: usize,
+) -> Operands
+    requires { ⌜ (at + lengthOf row ≤ length (now s)) × (length (now s) ≤ bodyLimit) × (new < 2 ^ 32) ⌝ }
+    ensures { λ r. ⌜ ((x : Carrying) (i : ℕ) → Mapped x (now (map .entry)) → Translated (x .«from» .bytes) (x .«from» .ends) (x .into .bytes) (x .into .ends) (now (ids .entry)) → ZerosBehind row → ZerosBehind row2 → countOf row ≡ countOf row2 → new ≡ getD (x .moved) i 0 → OperandsCarried x i at new row row2 (pairs row (now (s .entry)) (at + 1)) (now (out .entry)) k (now (out .exit)) r) ⌝ }
+{
+    let mut n = k;
+    let mut far: usize = 0;
+    let mut p = at + 1;
+    let mut j: usize = 0;
+    while j < 8 {
+        let c = row[j];
+        if c == 0 {
+            return Operands::Done(n, far);
+        }
+        let r = crate::operand_carry::carry_operand(c, row2[j], s, p, at, new, map, ids, out, n);
+        match r {
+            Carried::Done(next, is_far) => {
+                n = next;
+                far = first_far(far, is_far, j + 1);
+            }
+            Carried::Refused(fault) => {
+                return Operands::Refused(fault, j + 1);
+            }
+        }
+        p += sheet::operand_types::width(c);
+        j += 1;
+    }
+    Operands::Done(n, far)
+}
+
+// The first 8 of a body: its instruction, counted from 0, and its operand, counted from 1; no operand where there is none.
+pub struct Far {
+    pub instruction: usize,
+    pub operand: usize,
+}
+
+// The first 8, where `far` is that of the instructions before i.
+fn keep_first(far: Far, i: usize, operand: usize) -> Far
+    ensures { λ r. ⌜ r ≡ keepFirst far i operand ⌝ }
+{
+    if far.operand == 0 {
+        return Far {
+            instruction: i,
+            operand,
+        };
+    }
+    far
+}
+
+// How a body ends whose first pass is over: k bytes are written, or there is an 8.
+fn ended(k: usize, far: Far) -> Bytes
+    ensures { λ r. ⌜ r ≡ endedWith k far ⌝ }
+{
+    if far.operand == 0 {
+        return Bytes::Written(k);
+    }
+    Bytes::Refused(Refusal::BadOperand(OperandFault::Distance, far.instruction, far.operand))
+}
+
+// Carries all instructions of a body, from the front of the output on.
+pub(crate) fn carry_instructions(
+    types: &[[u8; 8]; 256],
+    types2: &[[u8; 8]; 256],
+    rows: &[[usize; 4]; 256],
+    last: usize,
+    s: &[u8],
+    map: &[u32],
+    ids: &[u32],
+    out: &mut [u8],
+) -> Bytes
+    requires { ⌜ Ready (now types) (now types2) (now rows) last (now s) (now map) (now ids) ⌝ }
+    ensures { λ r. ⌜ ((g : Ready (now (types .entry)) (now (types2 .entry)) (now (rows .entry)) last (now (s .entry)) (now (map .entry)) (now (ids .entry))) → BytesCarried (carryingIn g) (g .records) (now (out .entry)) (now (out .exit)) r) ⌝ }
+{
+    let mut k: usize = 0;
+    let mut new: usize = 0;
+    let mut i: usize = 0;
+    let mut far = Far {
+        instruction: 0,
+        operand: 0,
+    };
+    let mut at: usize = 0;
+    while at < s.len() {
+        let op = s[at] as usize;
+        let row = rows[op];
+        let state = row[STATE];
+        if state == MISSING {
+            return Bytes::Refused(Refusal::UnknownName(i));
+        }
+        if state != KNOWN {
+            return Bytes::Refused(Refusal::OperandCount(i));
+        }
+        let opcode = row[OPCODE];
+        let b = put_byte(out, k, opcode as u8);
+        let r = carry_operands(types[op], types2[opcode], s, at, new, map, ids, out, b);
+        match r {
+            Operands::Done(next, operand) => {
+                k = next;
+                far = keep_first(far, i, operand);
+            }
+            Operands::Refused(fault, operand) => {
+                return Bytes::Refused(Refusal::BadOperand(fault, i, operand));
+            }
+        }
+        new += row[NEW_LENGTH];
+        at += row[LENGTH];
+        i += 1;
+    }
+    ended(k, far)
+}

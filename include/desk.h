@@ -26,6 +26,12 @@
 #include <stddef.h>
 #include <stdint.h>
 
+/* The version, which stands here alone: ./desk --version, desk_version() and the pkg-config file take it from these lines. */
+#define DESK_VERSION "1.0.0"
+#define DESK_VERSION_MAJOR 1
+#define DESK_VERSION_MINOR 0
+#define DESK_VERSION_PATCH 0
+
 #ifdef __cplusplus
 extern "C" {
 #endif

@@ -33,7 +33,7 @@ fn put_values(out: &mut [u64], k: usize, row: [u8; 8], s: &[u8], at: usize)
         let kind = operand::value::kind_of(value);
         let bits = operand::value::bits_of(value, o.bits);
         put_pair(out, k + 2 * i, wide_byte(kind), bits);
-        p += sheet::operand_types::width(c);
+        p = o.next;
         i += 1;
     }
 }

@@ -5,14 +5,12 @@ use mathlib.Core.List.{List, [], _∷_, _++_}
 use Prim.Native.Nat.{ℕ, _^_, _≤_, _<_}
 use native.Mathlib.Omega.{arith}
 use lib.Dec.{eqb, ltb}
-use lib.ListN.{length, drop}
+use lib.ListN.{length}
 use borrow.Author.Tests.{lt-ltb, le-ltb, eq-eqb, ne-eqb}
 use Rattle.lists.specs.Choice.{pick}
-use Rattle.lists.specs.Scan.{Bytes, part}
+use Rattle.lists.specs.Scan.{part}
 use Rattle.lists.proofs.Tests.{by-eqb}
-use Rattle.lists.proofs.Parts.{bytes-drop}
 use Rattle.spec_numbers.specs.LittleEndian.{le}
-use Rattle.spec_numbers.proofs.ByteLaws.{le-bound}
 use Rattle.spec_sheet.specs.Types.{widthOf, familyOf}
 use Rattle.spec_sheet.proofs.TypeLaws.{width-some, family-address}
 use Rattle.spec_listing.specs.Operand.{targetOf}
@@ -20,10 +18,6 @@ use Rattle.spec_listing.specs.Labels.{targets}
 use Rattle.list_labels.specs.Notes.{Notes, note, noteAll}
 use Rattle.list_labels.specs.InstructionNotes.{targetIn}
 use Rattle.list_labels.proofs.NoteLaws.{all-one, all-none}
-
--- an operand's bits are of its width
-pub bits-below : (s : List ℕ) (p w bits : ℕ) → Bytes s → bits ≡ le (part s p w) → bits < 256 ^ w
-bits-below s p w bits h e = rw e (le-bound w (drop p s) (bytes-drop s p h))
 
 -- an Addr's target, one that is negative, and an operand that is no Addr
 module _ (at code bits : ℕ) where

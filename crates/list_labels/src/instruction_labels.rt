@@ -35,7 +35,9 @@ fn note_target(
     ensures { λ r. ⌜ notesOf (now (flags .exit)) (now (stored .exit)) r ≡ noteAll (notesOf (now (flags .entry)) (now (stored .entry)) counts) (targetIn at code (le (part (now (s .entry)) p (widthOf code)))) ⌝ }
 {
     if sheet::operand_types::family(code) == ADDR_FAMILY {
-        let bits = numbers::little_endian::read_le(s, p, sheet::operand_types::width(code));
+        let o = operand::read::read_operand(code, s, p);
+        let value = o.value;
+        let bits = operand::value::bits_of(value, o.bits);
         let target = crate::target::target_of(at, code, bits);
         if target < 0x8000_0000 {
             return note(flags, stored, counts, target);

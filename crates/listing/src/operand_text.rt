@@ -118,7 +118,7 @@ pub(crate) fn put_operands(
         let bits = operand::value::bits_of(value, o.bits);
         n = put_separator(out, n, i);
         n = put_operand(out, n, texts, bytes, ends, at, code, bits);
-        p += sheet::operand_types::width(code);
+        p = o.next;
         i += 1;
     }
     n

@@ -4,11 +4,12 @@ use mathlib.Core.List.{List}
 use Prim.Native.Nat.{ℕ, zero, suc, _+_, _%_, _^_, _≤_, _<_}
 use native.Mathlib.Nat.{mod-eq-of-lt, lt-of-lt-of-le, pow-le-pow-right}
 use native.Mathlib.Omega.{arith}
-use lib.Dec.{leb}
+use lib.Dec.{eqb, leb}
 use lib.ListN.{length, getD, List·getD-eq-default}
 use borrow.Author.Tests.{leb-true}
 use Rattle.lists.specs.Scan.{part}
-use Rattle.lists.proofs.Tests.{by-leb}
+use Rattle.lists.specs.Choice.{pick}
+use Rattle.lists.proofs.Tests.{by-leb, by-eqb}
 use Rattle.spec_numbers.specs.LittleEndian.{le}
 use Rattle.spec_numbers.proofs.SignedLaws.{unsigned-signed}
 use Rattle.spec_sheet.specs.Types.{widths, widthOf, kinds, kindOf}
@@ -57,6 +58,23 @@ width-within code =
     (λ h. leb-true _ _ (every (λ c. leb (getD widths c 0) (getD kindWidths (getD kinds c 0) 0)) 0 13 refl code (omega arith) (omega arith)))
     (λ h. rw (List·getD-eq-default widths 0 h) (omega arith))
 
+-- what stands beside a value that is no double does not matter
+beside-any : (kind bits a b : ℕ) → kind ≤ 4 → bitsOfValue (valueOf kind bits) a ≡ bitsOfValue (valueOf kind bits) b
+unfolding bitsOfValue
+beside-any zero bits a b h = refl
+beside-any (suc zero) bits a b h = refl
+beside-any (suc (suc zero)) bits a b h = refl
+beside-any (suc (suc (suc zero))) bits a b h = refl
+beside-any (suc (suc (suc (suc zero)))) bits a b h = refl
+beside-any (suc (suc (suc (suc (suc k))))) bits a b h = absurd (omega arith)
+
+-- so a double's bits are enough
+beside-double : (kind bits : ℕ) → kind ≤ 5 → bitsOfValue (valueOf kind bits) (pick (eqb kind 5) bits 0) ≡ bitsOfValue (valueOf kind bits) bits
+beside-double kind bits h =
+    by-eqb kind 5
+    (λ e. rw e)
+    (λ n. let l : kind ≤ 4 = omega (arith, n) in beside-any kind bits (pick (eqb kind 5) bits 0) bits l)
+
 -- the operand of a type has the type's kind, and the number that its bytes are
 pub operand-kind : (code : ℕ) (s : List ℕ) (at : ℕ) → kindIn (operandAt code s at) ≡ kindOf code
 unfolding operandAt
@@ -65,14 +83,18 @@ operand-kind code s at = kind-back (kindOf code) _ (kind-most code)
 pub operand-bits : (code : ℕ) (s : List ℕ) (at : ℕ) → le (part s at (widthOf code)) < 256 ^ widthOf code → bitsIn (operandAt code s at) ≡ le (part s at (widthOf code))
 unfolding operandAt
 operand-bits code s at h =
-    bits-back (kindOf code) _ (kind-most code) (lt-of-lt-of-le h (pow-le-pow-right {n = 256} (omega arith) (width-within code)))
+    beside-double (kindOf code) _ (kind-most code)
+    ∙ bits-back (kindOf code) _ (kind-most code) (lt-of-lt-of-le h (pow-le-pow-right {n = 256} (omega arith) (width-within code)))
 
 -- so has one that was read
-module _ (code : ℕ) (s : List ℕ) (at bits : ℕ) (o : Operand) (e : o ≡ operandAt code s at) (l : o .bits < 256 ^ widthOf code) (q : bits ≡ bitsIn o) where
+module _ (code : ℕ) (s : List ℕ) (at bits : ℕ) (o : Operand) (e : o ≡ operandAt code s at) (l : le (part s at (widthOf code)) < 256 ^ widthOf code) (q : bits ≡ bitsIn o) where
   pub read-bits : bits ≡ le (part s at (widthOf code))
-  unfolding operandAt
-  read-bits = q ∙ (ap bitsIn e ∙ operand-bits code s at (rw e at l))
+  read-bits = q ∙ (ap bitsIn e ∙ operand-bits code s at l)
 
   pub read-below : bits < 256 ^ widthOf code
+  read-below = rw read-bits l
+
+  -- and the position behind it
+  pub read-next : o .next ≡ at + widthOf code
   unfolding operandAt
-  read-below = rw read-bits (rw e at l)
+  read-next = ap (λ (x : Operand). x .next) e

@@ -1,2 +1,3 @@
+pub mod Reader
 pub mod Value
 pub mod Write

@@ -1,5 +1,5 @@
 -- An operand's value as the enum OperandValue. Assumes nothing.
-use Prim.Native.Nat.{ℕ, _%_}
+use Prim.Native.Nat.{ℕ, _+_, _%_}
 use mathlib.Core.List.{List}
 use lib.Dec.{eqb}
 use lib.Ieee.{ofBits, binary64}
@@ -39,9 +39,11 @@ bitsOfValue (I8 x) beside = unsigned 8 x
 bitsOfValue (I32 x) beside = unsigned 32 x
 bitsOfValue (F64 x) beside = beside
 
--- the operand of a type at a place: its value and its bits
+-- the operand of a type at a place: its value, a double's bits beside it, and the place behind its bytes
 unfoldable pub operandAt : ℕ → List ℕ → ℕ → Operand
-operandAt code s at = record { value = valueOf (kindOf code) (le (part s at (widthOf code))); bits = le (part s at (widthOf code)) }
+operandAt code s at =
+    let n = le (part s at (widthOf code)) in
+    record { value = valueOf (kindOf code) n; bits = pick (eqb (kindOf code) 5) n 0; next = at + widthOf code }
 
 -- what a record holds of an operand: the kind and the bits of its value
 abbrev pub kindIn : Operand → ℕ

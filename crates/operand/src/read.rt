@@ -1,18 +1,61 @@
-// An operand of a body: `read_operand` of instructions.rs.
+// An operand of a body: `OperandType::read` of opcode.rs, which calls the reader's read of its kind.
 ghost use mathlib.Core.Path.{_≡_};
 ghost use Prim.Native.Nat.{_+_, _^_, _≤_, _<_};
 ghost use lib.ListN.{length};
+ghost use Rattle.lists.specs.Scan.{part};
+ghost use Rattle.spec_numbers.specs.LittleEndian.{le};
 ghost use Rattle.spec_sheet.specs.Types.{widthOf};
 ghost use Rattle.operand.specs.Value.{operandAt};
 use crate::value::Operand;
-use crate::value::value_of;
+use crate::value::OperandValue;
 
-// The operand of a type at `at`.
+// An operand that is no double, of which nothing stands beside the value.
+fn plain(value: OperandValue, next: usize) -> Operand
+    ensures { λ r. ⌜ r ≡ record { value = value; bits = 0; next = next } ⌝ }
+{
+    Operand {
+        value,
+        bits: 0,
+        next,
+    }
+}
+
+// The operand of a type at `at`. What is no type has no bytes.
 pub fn read_operand(code: u8, s: &[u8], at: usize) -> Operand
     requires { ⌜ at + widthOf code ≤ length (now s) ⌝ }
-    ensures { λ r. ⌜ (r ≡ operandAt code (now (s .entry)) at) × (r .bits < 256 ^ widthOf code) ⌝ }
+    ensures { λ r. ⌜ (r ≡ operandAt code (now (s .entry)) at) × (le (part (now (s .entry)) at (widthOf code)) < 256 ^ widthOf code) ⌝ }
 {
-    let bits = numbers::little_endian::read_le(s, at, sheet::operand_types::width(code));
-    let value = value_of(sheet::operand_types::kind(code), bits);
-    Operand { value, bits }
+    if sheet::operand_types::width(code) == 0 {
+        return plain(OperandValue::U8(0), at);
+    }
+    match sheet::operand_types::kind(code) {
+        0 => {
+            let r = crate::reader::u8_of(s, at);
+            plain(OperandValue::U8(r.value), r.next)
+        }
+        1 => {
+            let r = crate::reader::u16_of(s, at);
+            plain(OperandValue::U16(r.value), r.next)
+        }
+        2 => {
+            let r = crate::reader::u32_of(s, at);
+            plain(OperandValue::U32(r.value), r.next)
+        }
+        3 => {
+            let r = crate::reader::i8_of(s, at);
+            plain(OperandValue::I8(r.value), r.next)
+        }
+        4 => {
+            let r = crate::reader::i32_of(s, at);
+            plain(OperandValue::I32(r.value), r.next)
+        }
+        _ => {
+            let r = crate::reader::f64_of(s, at);
+            Operand {
+                value: OperandValue::F64(r.value),
+                bits: r.bits,
+                next: r.next,
+            }
+        }
+    }
 }

@@ -12,10 +12,11 @@ pub enum OperandValue {
     F64(f64),
 }
 
-// A value with its bits.
+// An operand that was read: its value, a double's bits beside it and 0 beside any other, and the position behind its bytes.
 pub struct Operand {
     pub value: OperandValue,
     pub bits: u64,
+    pub next: usize,
 }
 
 // The value of a kind with these bits.

@@ -1,9 +1,9 @@
-use mathlib.Core.Path.{_≡_, ap, _∙_}
+use mathlib.Core.Path.{_≡_, refl, ap, _∙_}
 use Prim.Native.Nat.{_-_}
 use native.Mathlib.Omega.{arith}
 use lib.ListN.{length, getD}
 use Rattle.operand.specs.Value.{kindIn}
-use Rattle.operand.proofs.ValueLaws.{operand-kind, read-bits}
+use Rattle.operand.proofs.ValueLaws.{operand-kind, read-bits, read-next}
 use Rattle.decode.proofs.OperandLoop.{Going, start, kept-length, operand-inside, turn, ended}
 use borrow.Author.Needs.{needs}
 use Rattle.decode.proofs.record.put_values.Statement.{statement}
@@ -51,15 +51,6 @@ put-pair-requires c κs =
     let h : length (a .args .t3) ≡ 8 = search needs in
     omega (arith, a .pre .0, kept-length _ _ _ _ _ h (a .pre .0) _ _ _ (c .before .before .before .before .before .before .loop .inv))
 
-width-requires : tie.Need-width-requires Inv-loop μ-loop
-width-requires c κs = search needs
-
-add-p-2 : tie.Need-add-p-2 Inv-loop μ-loop
-add-p-2 c =
-    let a = c .before .before .before .before .before .before .before .before .before .before .before .before .before in
-    let h : length (a .args .t3) ≡ 8 = search needs in
-    omega (arith, c .width .ensures, operand-inside _ _ _ _ _ h (a .pre .0) _ _ _ (c .before .before .before .before .before .before .before .before .before .before .loop .inv) (a .pre .1) (c .before .before .before .before .before .before .before .before .before .loop-test .taken))
-
 add-i : tie.Need-add-i Inv-loop μ-loop
 add-i c = search needs
 
@@ -68,16 +59,16 @@ loop-less c = search needs
 
 loop-again : tie.Need-loop-again Inv-loop μ-loop
 loop-again c =
-    let a = c .before .before .before .before .before .before .before .before .before .before .before .before .before in
-    let l = c .before .before .before .before .before .before .before .before .before .before .loop in
+    let a = c .before .before .before .before .before .before .before .before .before .before .before .before in
+    let l = c .before .before .before .before .before .before .before .before .before .loop in
     let h : length (a .args .t3) ≡ 8 = search needs in
     let s = a .args .s .now in
     let code = getD (a .args .t3) (l .i) 0 in
-    let o = c .before .before .before .before .before .before .before .before .read-operand .ensures in
-    let k = c .before .before .before .before .wide-byte .ensures .0 ∙ (c .before .before .before .before .before .before .before .kind-of .ensures ∙ (ap kindIn (o .0) ∙ operand-kind code s (l .p))) in
-    let b = read-bits code s (l .p) _ _ (o .0) (o .1) (c .before .before .before .before .before .before .bits-of .ensures) in
-    rw (c .before .before .before .put-pair .ensures)
-    (turn _ s _ _ _ h (a .pre .0) _ _ _ (l .inv) _ _ _ (c .before .before .before .before .before .before .before .before .before .loop-test .taken) k b (c .width .ensures))
+    let o = c .before .before .before .before .before .before .before .read-operand .ensures in
+    let k = c .before .before .before .wide-byte .ensures .0 ∙ (c .before .before .before .before .before .before .kind-of .ensures ∙ (ap kindIn (o .0) ∙ operand-kind code s (l .p))) in
+    let q = c .before .before .before .before .before .bits-of .ensures in
+    rw (c .before .before .put-pair .ensures, read-next code s (l .p) _ _ (o .0) (o .1) q)
+    (turn _ s _ _ _ h (a .pre .0) _ _ _ (l .inv) _ _ _ (c .before .before .before .before .before .before .before .before .loop-test .taken) k (read-bits code s (l .p) _ _ (o .0) (o .1) q) refl)
 
 same-length : tie.Need-same-length Inv-loop μ-loop
 same-length c =
@@ -107,8 +98,6 @@ put-values-spec =
     add-put-pair
     wide-byte-requires
     put-pair-requires
-    width-requires
-    add-p-2
     add-i
     loop-less
     loop-again

@@ -1,10 +1,7 @@
-use Rattle.list_labels.proofs.TargetLaws.{bits-below, kept-noted, negative-noted, other-noted}
-use Rattle.spec_sheet.proofs.TypeLaws.{width-most}
-use Rattle.spec_sheet.specs.Types.{widthOf}
-use Rattle.spec_numbers.specs.LittleEndian.{le}
-use Rattle.lists.specs.Scan.{part}
+use Rattle.operand.proofs.ValueLaws.{read-bits, read-below}
+use Rattle.list_labels.proofs.TargetLaws.{kept-noted, negative-noted, other-noted}
 use native.Mathlib.Omega.{arith}
-use mathlib.Core.Path.{_≡_, sym, _∙_}
+use mathlib.Core.Path.{sym, _∙_}
 use borrow.Author.Needs.{needs}
 use Rattle.list_labels.proofs.instruction_labels.note_target.Statement.{statement}
 use Rattle.list_labels.proofs.instruction_labels.note_target.Tie as tie
@@ -12,19 +9,17 @@ use Rattle.list_labels.proofs.instruction_labels.note_target.Tie as tie
 family-requires : tie.Need-family-requires
 family-requires c κs = search needs
 
-width-requires : tie.Need-width-requires
-width-requires c κs = search needs
+read-operand-requires : tie.Need-read-operand-requires
+read-operand-requires c κs = search needs
 
-read-le-requires : tie.Need-read-le-requires
-read-le-requires c κs =
-    let w = c .width .ensures in
-    (omega (arith, c .before .before .before .before .before .before .pre, w), omega (arith, w, width-most (c .before .before .before .before .before .before .args .code)))
+bits-of-requires : tie.Need-bits-of-requires
+bits-of-requires c κs = search needs
 
 target-of-requires : tie.Need-target-of-requires
 target-of-requires c κs =
-    let a = c .before .before .before .before .before .before .before in
-    let e : c .read-le .result ≡ le (part (a .args .s .now) (a .args .p) (widthOf (a .args .code))) = rw (sym (c .before .width .ensures)) (c .read-le .ensures) in
-    (search needs, sym (c .before .before .before .family .ensures) ∙ c .before .before .if1 .taken, bits-below (a .args .s .now) (a .args .p) (widthOf (a .args .code)) _ (λ i. c .before .before .before .before .shared-slice-known .given i .fits) e)
+    let a = c .before .before .before .before .before .before .before .args in
+    let o = c .before .read-operand .ensures in
+    (search needs, sym (c .before .before .before .family .ensures) ∙ c .before .before .if1 .taken, read-below (a .code) (a .s .now) (a .p) _ _ (o .0) (o .1) (c .bits-of .ensures))
 
 note-requires : tie.Need-note-requires
 note-requires c κs = search needs
@@ -38,14 +33,14 @@ same-length-2 c = search needs
 returns : tie.Need-returns
 returns c =
     let a = c .before .before .before .before .before .before .before .before .before .before .before .before .before .before .before .before .args in
-    let e : c .before .before .before .before .before .before .before .before .before .read-le .result ≡ le (part (a .s .now) (a .p) (widthOf (a .code))) = rw (sym (c .before .before .before .before .before .before .before .before .before .before .width .ensures)) (c .before .before .before .before .before .before .before .before .before .read-le .ensures) in
-    kept-noted _ (a .s .now) (a .p) _ _ _ _ e (c .before .before .before .before .before .before .before .before .target-of .ensures) (sym (c .before .before .before .before .before .before .before .before .before .before .before .before .family .ensures) ∙ c .before .before .before .before .before .before .before .before .before .before .before .if1 .taken) _ (c .before .before .before .before .before .before .before .if2 .taken) (c .before .before .before .before .note .ensures)
+    let o = c .before .before .before .before .before .before .before .before .before .before .read-operand .ensures in
+    kept-noted _ (a .s .now) (a .p) _ _ _ _ (read-bits (a .code) (a .s .now) (a .p) _ _ (o .0) (o .1) (c .before .before .before .before .before .before .before .before .before .bits-of .ensures)) (c .before .before .before .before .before .before .before .before .target-of .ensures) (sym (c .before .before .before .before .before .before .before .before .before .before .before .before .family .ensures) ∙ c .before .before .before .before .before .before .before .before .before .before .before .if1 .taken) _ (c .before .before .before .before .before .before .before .if2 .taken) (c .before .before .before .before .note .ensures)
 
 returns-2 : tie.Need-returns-2
 returns-2 c =
     let a = c .before .before .before .before .before .before .before .before .before .args in
-    let e : c .before .before .read-le .result ≡ le (part (a .s .now) (a .p) (widthOf (a .code))) = rw (sym (c .before .before .before .width .ensures)) (c .before .before .read-le .ensures) in
-    negative-noted _ (a .s .now) (a .p) _ _ _ _ e (c .before .target-of .ensures) (sym (c .before .before .before .before .before .family .ensures) ∙ c .before .before .before .before .if1 .taken) (c .if2 .left)
+    let o = c .before .before .before .read-operand .ensures in
+    negative-noted _ (a .s .now) (a .p) _ _ _ _ (read-bits (a .code) (a .s .now) (a .p) _ _ (o .0) (o .1) (c .before .before .bits-of .ensures)) (c .before .target-of .ensures) (sym (c .before .before .before .before .before .family .ensures) ∙ c .before .before .before .before .if1 .taken) (c .if2 .left)
 
 returns-3 : tie.Need-returns-3
 returns-3 c = other-noted _ _ _ _ (λ e. c .if1 .left (c .before .family .ensures ∙ e))
@@ -55,8 +50,8 @@ note-target-spec =
     tie.close
     (tie.spec
     family-requires
-    width-requires
-    read-le-requires
+    read-operand-requires
+    bits-of-requires
     target-of-requires
     note-requires
     same-length

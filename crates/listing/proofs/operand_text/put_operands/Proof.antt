@@ -1,4 +1,4 @@
-use Rattle.operand.proofs.ValueLaws.{read-bits, read-below}
+use Rattle.operand.proofs.ValueLaws.{read-bits, read-below, read-next}
 use Prim.Native.Nat.{_-_}
 use lib.ListN.{length, getD}
 use mathlib.Core.Path.{_≡_, refl}
@@ -49,14 +49,6 @@ put-operand-requires c κs =
     let o = c .before .before .before .before .before .before .read-operand .ensures in
     (omega (arith, a .pre), read-below _ (a .args .s .now) (c .before .before .before .before .before .before .before .before .before .loop .p) _ _ (o .0) (o .1) (c .before .before .before .before .before .bits-of .ensures))
 
-width-requires : tie.Need-width-requires Inv-loop μ-loop
-width-requires c κs = search needs
-
-add-p-2 : tie.Need-add-p-2 Inv-loop μ-loop
-add-p-2 c =
-    let h : length (c .before .before .before .before .before .before .before .before .before .before .before .before .before .before .before .before .before .before .args .t6) ≡ 8 = search needs in
-    omega (arith, operand-room (c .before .before .before .before .before .before .before .before .before .before .before .before .before .loop .inv) _ (omega arith) (c .width .ensures))
-
 add-i : tie.Need-add-i Inv-loop μ-loop
 add-i c = search needs
 
@@ -65,12 +57,13 @@ loop-less c = search needs
 
 loop-again : tie.Need-loop-again Inv-loop μ-loop
 loop-again c =
-    let a = c .before .before .before .before .before .before .before .before .before .before .before .before .before .before .before .before .before .before in
-    let l = c .before .before .before .before .before .before .before .before .before .before .before .before .before .loop in
+    let a = c .before .before .before .before .before .before .before .before .before .before .before .before .before .before .before .before .before in
+    let l = c .before .before .before .before .before .before .before .before .before .before .before .before .loop in
     let h : length (a .args .t6) ≡ 8 = search needs in
-    let o = c .before .before .before .before .before .before .before .before .before .before .read-operand .ensures in
-    let b = read-bits _ (a .args .s .now) (l .p) _ _ (o .0) (o .1) (c .before .before .before .before .before .before .before .before .before .bits-of .ensures) in
-    turn (l .inv) _ _ _ (c .before .before .before .before .before .before .before .before .before .before .before .before .loop-test .taken) h refl (c .before .before .before .before .before .before .before .before .before .before .before .if1 .left) (c .width .ensures) (rw (← (c .width .ensures)) at b) (c .before .before .before .before .before .before .before .put-separator .ensures) (c .before .before .before .put-operand .ensures)
+    let o = c .before .before .before .before .before .before .before .before .before .read-operand .ensures in
+    let q = c .before .before .before .before .before .before .before .before .bits-of .ensures in
+    rw (read-next _ (a .args .s .now) (l .p) _ _ (o .0) (o .1) q)
+    (turn (l .inv) _ _ _ (c .before .before .before .before .before .before .before .before .before .before .before .loop-test .taken) h refl (c .before .before .before .before .before .before .before .before .before .before .if1 .left) refl (read-bits _ (a .args .s .now) (l .p) _ _ (o .0) (o .1) q) (c .before .before .before .before .before .before .put-separator .ensures) (c .before .before .put-operand .ensures))
 
 same-length-2 : tie.Need-same-length-2 Inv-loop μ-loop
 same-length-2 c = c .before .loop .inv .left .same-size
@@ -95,8 +88,6 @@ put-operands-spec =
     bits-of-requires
     put-separator-requires
     put-operand-requires
-    width-requires
-    add-p-2
     add-i
     loop-less
     loop-again

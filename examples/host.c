@@ -1,7 +1,7 @@
 /* A host of the desk: lists document 01's body and prints the listing, assembles that listing, which has to give the body
- * back, then carries the body to a second sheet and prints the result. tests/host builds it against the static library and
- * compares what it prints with examples/list.out and examples/carry.out. */
-#include "../include/desk.h"
+ * back, carries the body to a second sheet and prints the result, then has a damaged body refused and prints why.
+ * tests/host builds it against the installed libraries, static and shared, and compares what it prints. */
+#include <desk.h>
 #include <stdio.h>
 #include <string.h>
 
@@ -22,42 +22,54 @@ static const char sheet2[] = "version=1\n"
                              "op=4 name=Ret jump=0 types=Reg8\n";
 static const uint8_t bytes2[] = {0x78, 0x61, 0x2c, 0x62};
 static const uint32_t ends2[] = {1, 4};
-static const uint8_t body[] = {0x00, 0x01, 0x07, 0x01, 0x06, 0x02, 0x01, 0x00, 0x00, 0x04, 0x01};
+enum { BODY = 11 };
+static const uint8_t body[BODY] = {0x00, 0x01, 0x07, 0x01, 0x06, 0x02, 0x01, 0x00, 0x00, 0x04, 0x01};
+/* Its second instruction has opcode 5, and the sheet ends at 4. */
+static const uint8_t damaged[] = {0x00, 0x01, 0x07, 0x05};
+
+/* Space for whatever the calls below can answer. */
+static uint8_t listing[DESK_LIST_BYTES], again[DESK_ASSEMBLE_BYTES], carried[DESK_CARRY_BYTES(BODY)];
+static uint32_t entries[DESK_LIST_ENTRIES(BODY)];
+static uint32_t labels[DESK_ASSEMBLE_LABELS(DESK_MAX_TEXT)][3], carried_labels[DESK_CARRY_LABELS(BODY)][3];
+static uint64_t records[DESK_DECODE_WORDS(sizeof damaged)];
 
 static int refused(struct desk_answer a)
 {
-    if (a.number == 0)
+    if (a.number == DESK_OK)
         return 0;
-    fprintf(stderr, "refused=%u place=%u operand=%u\n", (unsigned)a.number, (unsigned)a.place, (unsigned)a.operand);
+    printf("refused=%u place=%u operand=%u\n", (unsigned)a.number, (unsigned)a.place, (unsigned)a.operand);
+    printf("%s\n", desk_explain(a.number));
     return 1;
 }
 
 int main(void)
 {
-    uint8_t listing[1024], again[64];
-    uint32_t entries[16], labels[16][3];
-    struct desk_answer a = desk_list((const uint8_t *)sheet, strlen(sheet), bytes, sizeof bytes, ends, 2, body,
-                                     sizeof body, true, true, true, listing, sizeof listing, entries, 16);
+    struct desk_answer a = desk_list((const uint8_t *)sheet, strlen(sheet), bytes, sizeof bytes, ends, 2, body, BODY, true, true,
+                                     true, listing, sizeof listing, entries, DESK_LIST_ENTRIES(BODY));
     if (refused(a) || fwrite(listing, 1, a.length, stdout) != a.length)
         return 1;
 
-    struct desk_answer b = desk_assemble((const uint8_t *)sheet, strlen(sheet), bytes, sizeof bytes, ends, 2, listing,
-                                         a.length, again, sizeof again, labels, 16);
+    struct desk_answer b =
+        desk_assemble((const uint8_t *)sheet, strlen(sheet), bytes, sizeof bytes, ends, 2, listing, a.length, again, sizeof again,
+                      labels, DESK_ASSEMBLE_LABELS(a.length));
     if (refused(b))
         return 1;
-    if (b.length != sizeof body || memcmp(again, body, sizeof body) != 0) {
+    if (b.length != BODY || memcmp(again, body, BODY) != 0) {
         fprintf(stderr, "the listing was assembled to another body\n");
         return 1;
     }
 
-    struct desk_answer c =
-        desk_carry((const uint8_t *)sheet, strlen(sheet), bytes, sizeof bytes, ends, 2, (const uint8_t *)sheet2,
-                   strlen(sheet2), bytes2, sizeof bytes2, ends2, 2, body, sizeof body, again, sizeof again, labels, 16);
+    struct desk_answer c = desk_carry((const uint8_t *)sheet, strlen(sheet), bytes, sizeof bytes, ends, 2,
+                                      (const uint8_t *)sheet2, strlen(sheet2), bytes2, sizeof bytes2, ends2, 2, body, BODY,
+                                      carried, sizeof carried, carried_labels, DESK_CARRY_LABELS(BODY));
     if (refused(c))
         return 1;
     printf("body=");
     for (size_t i = 0; i < c.length; i++)
-        printf("%02X", again[i]);
+        printf("%02X", carried[i]);
     printf("\n");
-    return 0;
+
+    struct desk_answer d = desk_decode((const uint8_t *)sheet, strlen(sheet), damaged, sizeof damaged, records,
+                                       DESK_DECODE_WORDS(sizeof damaged));
+    return refused(d) && d.number == DESK_BEYOND ? 0 : 1;
 }

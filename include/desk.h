@@ -53,8 +53,8 @@
 #define DESK_MAX_SHEET 35247         /* bytes of the longest sheet that is well-formed: 256 opcodes, longest names and types */
 #define DESK_RECORD_WORDS 20         /* words of a record: offset, opcode, length, operand count, eight pairs of kind and bits */
 
-/* Space that always suffices: with it no call is refused with DESK_SHORT, and some input needs all of it, but for the bytes of
-   DESK_ENCODE_BYTES and DESK_CARRY_BYTES. n may be evaluated twice. */
+/* Space that always suffices: with it no call is refused with DESK_SHORT. Some input needs all of it, but of DESK_CARRY_BYTES only
+   nearly so. n may be evaluated twice. */
 #define DESK_LEAST(a, b) ((a) < (b) ? (a) : (b))
 
 /* desk_decode, words of out for a body of n bytes: an instruction takes a byte or more, so there are at most n records.

@@ -126,6 +126,13 @@ static void limits(struct caller *c)
     c->in->part[ENDS].count = 0;
     put_u32(&c->in->part[ENDS], DESK_MAX_LINE - 9);
     expect(c, "listing a line too long", DESK_LONG_LINE, 0, 0);
+    /* Lines of 4,096 bytes with their ends. */
+    c->in->offsets = false;
+    c->in->part[ENDS].count = 0;
+    put_text(&c->in->part[BYTES], "aaaa");
+    put_u32(&c->in->part[ENDS], 4096 - 5);
+    repeat(b, "", 1, 2 * (DESK_MAX_LISTING / 4096) - 2);
+    expect(c, "the longest listing", DESK_OK, DESK_LIST_BYTES, 0);
 
     b = begin(c, CARRY, "version=1\ncount=1\nop=0 name=A jump=0 types=Reg8,Reg8,Reg8,Reg8,Reg8,Reg8,Reg8,Reg8\n");
     put_text(&c->in->part[SHEET2], "version=1\ncount=1\nop=9 name=A jump=0 types="

@@ -152,3 +152,11 @@ fn the_limits_are_those_of_the_header() {
         assert_eq!(line.split_whitespace().next(), Some(value.to_string().as_str()), "{name}");
     }
 }
+
+/// README.md shows the example that stands, and is run, in the crate's comment.
+#[test]
+fn the_example_of_the_readme() {
+    let comment = include_str!("../src/lib.rs").split("//! ```\n").nth(1).unwrap();
+    let example = comment.replace("//! ", "    ");
+    assert!(example.lines().count() == 5 && include_str!("../../../README.md").contains(&example));
+}

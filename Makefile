@@ -29,7 +29,7 @@ $(archive): $(sources)
 # The Rattle compiler's object, out of its archive.
 $(kit)/desk_host.o: $(archive)
 	@mkdir -p $(kit)
-	cd $(kit) && ar x $(CURDIR)/$(archive) desk_host.o
+	cd $(kit) && ar x '$(CURDIR)/$(archive)' desk_host.o
 
 $(kit)/explain.c: host/make-explain host/refusals.tsv
 	@mkdir -p $(kit)

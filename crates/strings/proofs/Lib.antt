@@ -1,3 +1,4 @@
+pub mod AsciiLaws
 pub mod Entries
 pub mod EscapeTurns
 pub mod BareLaws

@@ -1,6 +1,8 @@
 // The string table: bytes and the ends of its entries.
 ghost use mathlib.Core.Path.{_≡_};
-ghost use Prim.Native.Nat.{_-_};
+ghost use mathlib.Core.Bool.{true};
+ghost use Prim.Native.Nat.{ℕ, _-_, _<_};
+ghost use lib.ListN.{getD};
 ghost use Rattle.lists.specs.Scan.{part};
 ghost use Rattle.slices.specs.Answers.{foundOf};
 ghost use Rattle.spec_strings.specs.Table.{tooLarge, fault, wellFormed, lookup};
@@ -34,8 +36,9 @@ pub fn entry_part(bytes: &[u8], start: usize, end: usize) -> &[u8]
     slices::part::part_of(bytes, start, end - start)
 }
 
-// Whether an entry is in order: refusal 17.
-fn well_formed(bytes: &[u8], start: usize, end: usize) -> bool
+// Whether an entry is in order: refusal 17. Bytes that are known to be ASCII need no walk by characters.
+fn well_formed(bytes: &[u8], ascii: bool, start: usize, end: usize) -> bool
+    requires { ⌜ (ascii ≡ true → (i : ℕ) → getD (now bytes) i 0 < 128) ⌝ }
     ensures { λ r. ⌜ r ≡ wellFormed (now (bytes .entry)) start end ⌝ }
 {
     if end < start {
@@ -44,6 +47,9 @@ fn well_formed(bytes: &[u8], start: usize, end: usize) -> bool
     if bytes.len() < end {
         return false;
     }
+    if ascii {
+        return true;
+    }
     crate::utf8::is_utf8(&bytes[start..end])
 }
 
@@ -51,11 +57,12 @@ fn well_formed(bytes: &[u8], start: usize, end: usize) -> bool
 pub fn find_fault(bytes: &[u8], ends: &[u32]) -> Found
     ensures { λ r. ⌜ r ≡ foundOf (fault (now (bytes .entry)) (now (ends .entry))) ⌝ }
 {
+    let ascii = crate::utf8::largest(bytes) < 128;
     let mut start: usize = 0;
     let mut i: usize = 0;
     while i < ends.len() {
         let end = wide(ends[i]);
-        if !well_formed(bytes, start, end) {
+        if !well_formed(bytes, ascii, start, end) {
             return Found::At(i);
         }
         start = end;

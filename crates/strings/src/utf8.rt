@@ -1,7 +1,7 @@
 // UTF-8 as the definition reads it: one state and one byte at a time.
 ghost use mathlib.Core.Path.{_≡_};
-ghost use Prim.Native.Nat.{_≤_};
-ghost use lib.ListN.{length, drop};
+ghost use Prim.Native.Nat.{ℕ, _≤_};
+ghost use lib.ListN.{length, getD, drop};
 ghost use Rattle.lists.specs.Choice.{pick, within};
 ghost use Rattle.spec_strings.specs.Utf8.{broken, afterLead, afterNext, step, utf8From, isUtf8};
 use slices::compare::is_within;
@@ -115,4 +115,23 @@ pub fn is_utf8(s: &[u8]) -> bool
         i = skip_ascii(s, i + 1, st);
     }
     st == 0
+}
+
+fn larger(a: u8, b: u8) -> u8
+    ensures { λ r. ⌜ (a ≤ r) × (b ≤ r) ⌝ }
+{
+    if a < b { b } else { a }
+}
+
+// The largest byte, 0 where there is none. Nothing ends the loop early, so that it compiles to a few instructions for many bytes.
+pub(crate) fn largest(s: &[u8]) -> u8
+    ensures { λ r. ⌜ ((i : ℕ) → getD (now (s .entry)) i 0 ≤ r) ⌝ }
+{
+    let mut most: u8 = 0;
+    let mut i: usize = 0;
+    while i < s.len() {
+        most = larger(most, s[i]);
+        i += 1;
+    }
+    most
 }

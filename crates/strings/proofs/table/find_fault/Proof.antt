@@ -5,16 +5,19 @@ use lib.ListN.{length, drop}
 use Rattle.spec_strings.specs.Table.{faultFrom, fault}
 use Rattle.spec_strings.proofs.TableSteps.{fault-go, fault-stop, fault-end}
 use Rattle.slices.specs.Answers.{foundOf}
-use borrow.Author.Tests.{not-true, not-false}
+use borrow.Author.Tests.{not-true, not-false, ltb-true}
 use borrow.Author.Needs.{needs}
 use Rattle.strings.proofs.table.find_fault.Statement.{statement}
 use Rattle.strings.proofs.table.find_fault.Tie as tie
 
 abbrev Inv-loop : tie.InvT-loop
-Inv-loop bytes ends start₀ i₀ start i = (i ≤ length ends) × (fault bytes ends ≡ faultFrom bytes start i (drop i ends))
+Inv-loop bytes ends ascii start₀ i₀ start i = (i ≤ length ends) × (fault bytes ends ≡ faultFrom bytes start i (drop i ends))
 
 abbrev μ-loop : tie.MeasureT-loop
-μ-loop bytes ends start₀ i₀ start i = length ends - i
+μ-loop bytes ends ascii start₀ i₀ start i = length ends - i
+
+largest-requires : tie.Need-largest-requires Inv-loop μ-loop
+largest-requires c κs = search needs
 
 loop-holds : tie.Need-loop-holds Inv-loop μ-loop
 loop-holds c = search needs
@@ -29,7 +32,7 @@ wide-requires : tie.Need-wide-requires Inv-loop μ-loop
 wide-requires c κs = search needs
 
 well-formed-requires : tie.Need-well-formed-requires Inv-loop μ-loop
-well-formed-requires c κs = search needs
+well-formed-requires c κs = λ e i. let l = c .before .before .before .before .largest in omega (arith, l .ensures i, ltb-true (l .result) 128 e)
 
 returns : tie.Need-returns Inv-loop μ-loop
 returns c =
@@ -60,6 +63,7 @@ find-fault-spec =
     (tie.spec
     Inv-loop
     μ-loop
+    largest-requires
     loop-holds
     mul-wide
     shared-slice-read-wide

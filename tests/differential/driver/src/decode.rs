@@ -100,7 +100,7 @@ pub fn random_case(r: &mut Random, sheet: &Sheet) -> Case {
     Case { body, spare }
 }
 
-fn one(t: &mut Tally, f: &RefCell<BytecodeFile>, sheet: &Sheet, body: &[u8], spare: i64) {
+pub fn one(t: &mut Tally, f: &RefCell<BytecodeFile>, sheet: &Sheet, body: &[u8], spare: i64) {
     let ok = same(&mut f.borrow_mut(), sheet, body, spare);
     t.count(ok, || tell(f, sheet, body, spare));
 }

@@ -6,9 +6,11 @@ mod asked;
 mod asm_texts;
 mod assemble;
 mod bench;
+mod converted;
 mod decode;
 mod desk;
 mod encode;
+mod formats;
 mod jobs;
 mod listing;
 mod modules;
@@ -58,6 +60,7 @@ fn compare(seed: u64, count: u64) -> bool {
         Box::new(move |r| decode::run(r, count, sheets, large)),
         Box::new(move |r| encode::run(r, count, sheets, large)),
         Box::new(move |r| listing::run(r, count / 4, sheets, large)),
+        Box::new(move |r| converted::run(r, 100 + count / 500)),
         Box::new(move |r| modules::run(r, count / 10, sheets)),
         Box::new(move |r| texts::run(r, count / 5)),
         Box::new(move |r| numbers::run(r, count / 10)),

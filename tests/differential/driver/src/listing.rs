@@ -149,38 +149,42 @@ fn compare(f: &mut BytecodeFile, sheet: &Sheet, strings: &[String], body: &[u8],
     Some((e, d))
 }
 
+/// A random body of about a length at most, listed by both under a sheet.
+pub fn one(t: &mut Tally, f: &RefCell<BytecodeFile>, r: &mut Random, sheet: &Sheet, most: usize) {
+    let strings = strings(r);
+    let mut body = body(r, sheet, strings.len(), most);
+    if r.one_in(6) && !sheet.has_doubles() {
+        crate::decode::damage(r, &mut body);
+    }
+    let shown = shown(r);
+    let spare = Spare { bytes: *r.pick(&[0, 0, 3, 40, -1]), entries: *r.pick(&[0, 0, 2, -1]) };
+    let same = compare(&mut f.borrow_mut(), sheet, &strings, &body, shown, spare).is_none();
+    t.count(same, || {
+        let differs = |b: &[u8]| compare(&mut f.borrow_mut(), sheet, &strings, b, shown, spare).is_some();
+        let mut small = smallest(&rust::pieces(&sheet.format, &body), 1, |some| differs(&some.concat())).concat();
+        // A double that other bytes make is outside demand 2's domain.
+        if !sheet.has_doubles() {
+            small = smallest(&small, 1, differs);
+        }
+        let (e, d) = compare(&mut f.borrow_mut(), sheet, &strings, &small, shown, spare).unwrap();
+        format!(
+            "{}strings={strings:?}\nbody={} {shown:?} {spare:?}\n  rust: {}\n{}\n  desk: {}\n{}",
+            String::from_utf8_lossy(&sheet.text),
+            hex(&small),
+            show(&e.answer),
+            lines(&e.out),
+            show(&d.answer),
+            lines(&d.out)
+        )
+    });
+}
+
 pub fn run(r: &mut Random, count: u64, sheets: &[Sheet], large: &[Sheet]) -> (u64, u64) {
     let mut t = Tally::new("list");
     let f = RefCell::new(rust::file_of(&[]));
     for n in 0..count {
         let sheet = if n % 300 == 0 { r.pick(large) } else { r.pick(sheets) };
-        let strings = strings(r);
-        let most = if n % 500 == 0 { 4000 } else { 60 };
-        let mut body = body(r, sheet, strings.len(), most);
-        if r.one_in(6) && !sheet.has_doubles() {
-            crate::decode::damage(r, &mut body);
-        }
-        let shown = shown(r);
-        let spare = Spare { bytes: *r.pick(&[0, 0, 3, 40, -1]), entries: *r.pick(&[0, 0, 2, -1]) };
-        let same = compare(&mut f.borrow_mut(), sheet, &strings, &body, shown, spare).is_none();
-        t.count(same, || {
-            let differs = |b: &[u8]| compare(&mut f.borrow_mut(), sheet, &strings, b, shown, spare).is_some();
-            let mut small = smallest(&rust::pieces(&sheet.format, &body), 1, |some| differs(&some.concat())).concat();
-            // A double that other bytes make is outside demand 2's domain.
-            if !sheet.has_doubles() {
-                small = smallest(&small, 1, differs);
-            }
-            let (e, d) = compare(&mut f.borrow_mut(), sheet, &strings, &small, shown, spare).unwrap();
-            format!(
-                "{}strings={strings:?}\nbody={} {shown:?} {spare:?}\n  rust: {}\n{}\n  desk: {}\n{}",
-                String::from_utf8_lossy(&sheet.text),
-                hex(&small),
-                show(&e.answer),
-                lines(&e.out),
-                show(&d.answer),
-                lines(&d.out)
-            )
-        });
+        one(&mut t, &f, r, sheet, if n % 500 == 0 { 4000 } else { 60 });
     }
     t.end()
 }

@@ -1,5 +1,3 @@
-use Prim.Native.Nat.{_-_}
-use Rattle.strings.proofs.AsciiLaws.{ascii-part}
 use borrow.Author.Tests.{le-leb, lt-leb}
 use Rattle.spec_strings.specs.Table.{wellFormed}
 use borrow.Author.Needs.{needs}
@@ -14,12 +12,6 @@ returns-2 : tie.Need-returns-2
 unfolding wellFormed
 returns-2 c = rw (le-leb _ _ (c .before .if1 .left), lt-leb _ _ (c .if2 .taken))
 
-returns-3 : tie.Need-returns-3
-unfolding wellFormed
-returns-3 c =
-    let a = c .before .before .before .before in
-    rw (le-leb _ _ (c .before .before .if1 .left), le-leb _ _ (c .before .if2 .left), ascii-part (a .args .bytes .now) (a .args .start) (a .args .end - a .args .start) (a .pre (c .if3 .taken)))
-
 part-is-utf8-start : tie.Need-part-is-utf8-start
 part-is-utf8-start c = search needs
 
@@ -29,13 +21,13 @@ part-is-utf8-end c = search needs
 is-utf8-requires : tie.Need-is-utf8-requires
 is-utf8-requires c κs = search needs
 
-returns-4 : tie.Need-returns-4
+returns-3 : tie.Need-returns-3
 unfolding wellFormed
-returns-4 c =
-    let p = c .before .before .before in
+returns-3 c =
+    let p = c .before .before in
     rw (le-leb _ _ (p .before .if1 .left), le-leb _ _ (p .if2 .left)) (c .is-utf8 .ensures)
 
 pub well-formed-spec : {M : Type 1} → statement M
 well-formed-spec =
     tie.close
-    (tie.spec returns returns-2 returns-3 part-is-utf8-start part-is-utf8-end is-utf8-requires returns-4)
+    (tie.spec returns returns-2 part-is-utf8-start part-is-utf8-end is-utf8-requires returns-3)

@@ -1,10 +1,8 @@
 // One operand: what document 01's first pass asks of it and what its second pass writes, in one step, so that it is read once.
 ghost use mathlib.Core.Path.{_≡_};
-ghost use mathlib.Core.Bool.{not};
 ghost use Prim.Native.Nat.{ℕ, _+_, _^_, _<_, _≤_};
 ghost use lib.ListN.{length, getD};
 ghost use Rattle.limits.specs.Limits.{bodyLimit};
-ghost use Rattle.lists.specs.Choice.{both};
 ghost use Rattle.lists.specs.Scan.{part};
 ghost use Rattle.lists.specs.Write.{Put};
 ghost use Rattle.spec_numbers.specs.LittleEndian.{le, leBytes};

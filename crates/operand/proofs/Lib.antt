@@ -1,6 +1,7 @@
 pub mod ReaderRead
-pub mod ReaderPlain
+pub mod ReaderAbove
 pub mod ReaderLaws
+pub mod ReaderTrials
 pub mod ReadLaws
 pub mod ValueLaws
 pub mod WriteLaws

@@ -1,5 +1,5 @@
 -- An operand by the read of its kind. Assumes nothing.
-use mathlib.Core.Path.{_≡_, refl, ap, sym, _∙_}
+use mathlib.Core.Path.{_≡_, refl, ap, _∙_}
 use mathlib.Core.Bool.{true}
 use mathlib.Core.List.{List}
 use Prim.Native.Nat.{ℕ, _+_, _%_, _^_, _≤_, _<_}
@@ -14,7 +14,6 @@ use Rattle.spec_numbers.specs.LittleEndian.{le}
 use Rattle.spec_sheet.specs.Types.{widthOf, widths, kindOf, kinds}
 use Rattle.spec_sheet.proofs.TypeLaws.{below, implies, by-codes, kindWidths, kind-width}
 use Rattle.spec_body.proofs.ReencodeLaws.{part-below}
-use Rattle.operand.specs.declared.reader.Number.{Number}
 use Rattle.operand.specs.declared.reader.ReadU8.{ReadU8}
 use Rattle.operand.specs.declared.reader.ReadU16.{ReadU16}
 use Rattle.operand.specs.declared.reader.ReadU32.{ReadU32}
@@ -24,7 +23,7 @@ use Rattle.operand.specs.declared.reader.ReadF64.{ReadF64}
 use Rattle.operand.specs.declared.value.Operand.{Operand}
 use Rattle.operand.specs.declared.value.OperandValue.the-variants.{U8, U16, U32, I8, I32, F64}
 use Rattle.operand.specs.Reader.{numberAt, u8At, u16At, u32At, i8At, i32At, f64At}
-use Rattle.operand.specs.Value.{valueOf, operandAt}
+use Rattle.operand.specs.Value.{operandAt}
 
 -- a code that takes no bytes is decoded to a U8
 no-kind : (code : ℕ) → widthOf code ≡ 0 → kindOf code ≡ 0

@@ -10,7 +10,7 @@ use crate::value::Operand;
 use crate::value::OperandValue;
 
 // An operand that is no double, of which nothing stands beside the value.
-fn plain(value: OperandValue, next: usize) -> Operand
+fn without_bits(value: OperandValue, next: usize) -> Operand
     ensures { λ r. ⌜ r ≡ record { value = value; bits = 0; next = next } ⌝ }
 {
     Operand {
@@ -26,28 +26,28 @@ pub fn read_operand(code: u8, s: &[u8], at: usize) -> Operand
     ensures { λ r. ⌜ (r ≡ operandAt code (now (s .entry)) at) × (le (part (now (s .entry)) at (widthOf code)) < 256 ^ widthOf code) ⌝ }
 {
     if sheet::operand_types::width(code) == 0 {
-        return plain(OperandValue::U8(0), at);
+        return without_bits(OperandValue::U8(0), at);
     }
     match sheet::operand_types::kind(code) {
         0 => {
             let r = crate::reader::u8_of(s, at);
-            plain(OperandValue::U8(r.value), r.next)
+            without_bits(OperandValue::U8(r.value), r.next)
         }
         1 => {
             let r = crate::reader::u16_of(s, at);
-            plain(OperandValue::U16(r.value), r.next)
+            without_bits(OperandValue::U16(r.value), r.next)
         }
         2 => {
             let r = crate::reader::u32_of(s, at);
-            plain(OperandValue::U32(r.value), r.next)
+            without_bits(OperandValue::U32(r.value), r.next)
         }
         3 => {
             let r = crate::reader::i8_of(s, at);
-            plain(OperandValue::I8(r.value), r.next)
+            without_bits(OperandValue::I8(r.value), r.next)
         }
         4 => {
             let r = crate::reader::i32_of(s, at);
-            plain(OperandValue::I32(r.value), r.next)
+            without_bits(OperandValue::I32(r.value), r.next)
         }
         _ => {
             let r = crate::reader::f64_of(s, at);

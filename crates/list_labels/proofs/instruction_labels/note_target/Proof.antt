@@ -1,6 +1,5 @@
 use Rattle.operand.proofs.ValueLaws.{read-bits, read-below}
 use Rattle.list_labels.proofs.TargetLaws.{kept-noted, negative-noted, other-noted}
-use native.Mathlib.Omega.{arith}
 use mathlib.Core.Path.{sym, _∙_}
 use borrow.Author.Needs.{needs}
 use Rattle.list_labels.proofs.instruction_labels.note_target.Statement.{statement}

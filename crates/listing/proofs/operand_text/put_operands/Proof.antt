@@ -1,6 +1,6 @@
 use Rattle.operand.proofs.ValueLaws.{read-bits, read-below, read-next}
 use Prim.Native.Nat.{_-_}
-use lib.ListN.{length, getD}
+use lib.ListN.{length}
 use mathlib.Core.Path.{_≡_, refl}
 use native.Mathlib.Omega.{arith}
 use Rattle.listing.proofs.OperandsLoop.{Going, start, operand-room, turn, stopped, ended}

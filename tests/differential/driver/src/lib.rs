@@ -77,15 +77,17 @@ fn compare(seed: u64, count: u64) -> bool {
 pub fn main() {
     let words: Vec<String> = std::env::args().skip(1).collect();
     let number = |i: usize, otherwise: u64| words.get(i).map_or(otherwise, |w| w.parse().expect("a number"));
+    let word = |i: usize| words.get(i).map_or("", |w| w.as_str());
     match words.first().map_or("compare", |w| w.as_str()) {
         "compare" => {
             let same = compare(number(1, 1), number(2, 1_000_000));
             std::process::exit(!same as i32);
         }
-        "bench" => bench::run(words.get(1).map_or("", |w| w.as_str())),
+        "bench" => bench::run(word(1)),
+        "count" => bench::count(word(1), word(2)),
         "replay" => replay::write(words.get(1).expect("the file to write")),
         _ => {
-            eprintln!("compare [SEED [COUNT]] | bench [PART] | replay FILE");
+            eprintln!("compare [SEED [COUNT]] | bench [record | PART] | replay FILE");
             std::process::exit(2);
         }
     }

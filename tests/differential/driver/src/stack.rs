@@ -2,7 +2,8 @@
 
 use crate::areas::Area;
 use crate::assemble::Table;
-use crate::desk::{self, Answer, Shown};
+use crate::desk::{self, Answer};
+use crate::listing::DEFAULT;
 use crate::rust::{refusal, success};
 use crate::sheets;
 
@@ -44,21 +45,37 @@ fn largest() -> String {
     text + &"\n".repeat(rest)
 }
 
-/// The stack of one call, which has to answer as expected.
-fn measured(what: &str, expected: Answer, call: impl FnOnce() -> Answer + Send) {
-    let mut answer = success(0);
-    let work = || used_by(|| answer = call());
-    let thread = std::thread::Builder::new().stack_size(SPACE);
-    let used = std::thread::scope(|s| thread.spawn_scoped(s, work).unwrap().join().unwrap());
-    assert!(answer == expected, "{what}: {answer:?}");
-    println!("| {what} | {used} |");
+/// A call and the stack that it used.
+pub struct Used {
+    pub call: String,
+    pub bytes: usize,
 }
 
-/// Assembling a text under document 01's sheet, with so many bytes and label entries lent.
-fn assembled(what: &str, table: &Table, text: &str, room: usize, lent: usize, expected: Answer) {
+/// Adds the stack of one call, which has to answer as expected.
+fn add(all: &mut Vec<Used>, call: &str, expected: Answer, f: impl FnOnce() -> Answer + Send) {
+    let mut answer = success(0);
+    let work = || used_by(|| answer = f());
+    let thread = std::thread::Builder::new().stack_size(SPACE);
+    let bytes = std::thread::scope(|s| thread.spawn_scoped(s, work).unwrap().join().unwrap());
+    assert!(answer == expected, "{call}: {answer:?}");
+    all.push(Used { call: call.to_string(), bytes });
+}
+
+/// A text to assemble under document 01's sheet, with so many bytes and label entries lent, and the answer to it.
+struct Text<'a> {
+    table: &'a Table,
+    text: &'a str,
+    room: usize,
+    lent: usize,
+    expected: Answer,
+}
+
+fn assembled(all: &mut Vec<Used>, what: &str, t: Text) {
     let sheet = sheets::of_document();
-    let (mut out, mut entries) = (vec![0u8; room], vec![[0u32; 3]; lent]);
-    measured(what, expected, || desk::assemble(&sheet.text, &table.bytes, &table.ends, text.as_bytes(), &mut out, &mut entries));
+    let (mut out, mut entries) = (vec![0u8; t.room], vec![[0u32; 3]; t.lent]);
+    add(all, &format!("desk_assemble, {what}"), t.expected, || {
+        desk::assemble(&sheet.text, &t.table.bytes, &t.table.ends, t.text.as_bytes(), &mut out, &mut entries)
+    });
 }
 
 /// A body of so many jumps by 127, whose labels lie apart and, at its end, far outside.
@@ -67,65 +84,63 @@ fn jumps(count: usize) -> Vec<u8> {
 }
 
 /// The operations on bodies, of which the largest has 65,536 bytes, as a body and as the one function of an area.
-fn on_body(what: &str, count: usize) {
+fn on_body(all: &mut Vec<Used>, what: &str, count: usize) {
     let sheet = sheets::of_document();
     let body = jumps(count);
-    let shown = Shown { offsets: true, labels: true, texts: true };
     let area = Area { functions: vec![0, body.len() as u32, 0], bytes: body.clone(), base: 0 };
     let mut words = vec![0u64; 20 * count];
     let mut text = vec![0u8; 1 << 20];
     let mut entries = vec![0u32; 1 << 16];
     let mut bytes = vec![0u8; body.len()];
-    measured(&format!("desk_decode, {what}"), success(count), || desk::decode(&sheet.text, &body, &mut words));
-    measured(&format!("desk_decode_function, {what}"), success(count), || desk::decode_function(&sheet.text, &area, 0, &mut words));
-    measured(&format!("desk_encode, {what}"), success(body.len()), || desk::encode(&sheet.text, &words, &mut bytes));
-    let length = desk::list(&sheet.text, &[], &[], &body, shown, &mut text, &mut entries).length as usize;
-    measured(&format!("desk_list, {what}"), success(length), || desk::list(&sheet.text, &[], &[], &body, shown, &mut text, &mut entries));
-    measured(&format!("desk_list_function, {what}"), success(length), || {
-        desk::list_function(&sheet.text, &[], &[], &area, 0, shown, &mut text, &mut entries)
+    add(all, &format!("desk_decode, {what}"), success(count), || desk::decode(&sheet.text, &body, &mut words));
+    add(all, &format!("desk_decode_function, {what}"), success(count), || desk::decode_function(&sheet.text, &area, 0, &mut words));
+    add(all, &format!("desk_encode, {what}"), success(body.len()), || desk::encode(&sheet.text, &words, &mut bytes));
+    let length = desk::list(&sheet.text, &[], &[], &body, DEFAULT, &mut text, &mut entries).length as usize;
+    add(all, &format!("desk_list, {what}"), success(length), || desk::list(&sheet.text, &[], &[], &body, DEFAULT, &mut text, &mut entries));
+    add(all, &format!("desk_list_function, {what}"), success(length), || {
+        desk::list_function(&sheet.text, &[], &[], &area, 0, DEFAULT, &mut text, &mut entries)
     });
-    let module = desk::list_module(&sheet.text, &[], &[], &area, shown, &mut text, &mut entries).length as usize;
-    measured(&format!("desk_list_module, {what}"), success(module), || {
-        desk::list_module(&sheet.text, &[], &[], &area, shown, &mut text, &mut entries)
+    let module = desk::list_module(&sheet.text, &[], &[], &area, DEFAULT, &mut text, &mut entries).length as usize;
+    add(all, &format!("desk_list_module, {what}"), success(module), || {
+        desk::list_module(&sheet.text, &[], &[], &area, DEFAULT, &mut text, &mut entries)
     });
 }
 
 /// Listing long jumps whose targets lie all over the range, far outside of the body, where labels are counted by parting.
-fn far_labels() {
+fn far_labels(all: &mut Vec<Used>) {
     let sheet = b"version=1\ncount=1\nop=0 name=JmpLong jump=1 types=Addr32\n";
     let jump = |n: u32| [&[0u8][..], &(n.wrapping_mul(0x9e37_79b1) >> 1).to_le_bytes()].concat();
     let body: Vec<u8> = (0..13_107).flat_map(jump).collect();
-    let shown = Shown { offsets: true, labels: true, texts: true };
     let (mut text, mut entries) = (vec![0u8; 1 << 20], vec![0u32; 1 << 16]);
-    let length = desk::list(sheet, &[], &[], &body, shown, &mut text, &mut entries).length as usize;
-    measured("desk_list, 13,107 labels far outside", success(length), || desk::list(sheet, &[], &[], &body, shown, &mut text, &mut entries));
+    let length = desk::list(sheet, &[], &[], &body, DEFAULT, &mut text, &mut entries).length as usize;
+    add(all, "desk_list, 13,107 labels far outside", success(length), || desk::list(sheet, &[], &[], &body, DEFAULT, &mut text, &mut entries));
 }
 
 /// Carrying jumps, with as many strings on both sides.
-fn carried(what: &str, table: &Table, count: usize) {
+fn carried(all: &mut Vec<Used>, what: &str, table: &Table, count: usize) {
     let sheet = sheets::of_document();
     let edition = desk::Edition { sheet: &sheet.text, bytes: &table.bytes, ends: &table.ends };
     let body = [1, 0].repeat(count);
     let (mut out, mut labels) = (vec![0u8; body.len()], vec![[0u32; 3]; count]);
-    measured(what, success(body.len()), || desk::carry(edition, edition, &body, &mut out, &mut labels));
+    add(all, &format!("desk_carry, {what}"), success(body.len()), || desk::carry(edition, edition, &body, &mut out, &mut labels));
 }
 
-pub fn run() {
-    println!("\nStack of each function, by the bytes it leaves changed below its caller\n");
-    println!("| call | stack, bytes |\n|---|---|");
-    on_body("an empty body", 0);
-    on_body("2 bytes", 1);
-    on_body("4,096 bytes", 2048);
-    on_body("65,536 bytes", 32_768);
-    far_labels();
-    let none = Table::new(Vec::new());
-    let many = Table::new((0..65_535).map(|n| format!("s{n}")).chain([quotes()]).collect());
-    assembled("desk_assemble, nothing", &none, "", 0, 0, success(0));
-    assembled("desk_assemble, one line", &none, "Ret r1\n", 2, 0, success(2));
-    assembled("desk_assemble, at the limits", &many, &largest(), 65_536, 8190, success(65_536));
-    assembled("desk_assemble, at the limits, no label entries", &many, &largest(), 65_536, 0, refusal(19, 0, 0));
-    carried("desk_carry, an empty body, no strings", &none, 0);
-    carried("desk_carry, an empty body, 65,536 strings", &many, 0);
-    carried("desk_carry, 65,536 bytes, no strings", &none, 32_768);
-    carried("desk_carry, at the limits", &many, 32_768);
+/// The stack of each function, on nothing and at the limits.
+pub fn of_calls() -> Vec<Used> {
+    let mut all = Vec::new();
+    on_body(&mut all, "an empty body", 0);
+    on_body(&mut all, "65,536 bytes", 32_768);
+    far_labels(&mut all);
+    let none = &Table::new(Vec::new());
+    let many = &Table::new((0..65_535).map(|n| format!("s{n}")).chain([quotes()]).collect());
+    let text = &largest();
+    assembled(&mut all, "nothing", Text { table: none, text: "", room: 0, lent: 0, expected: success(0) });
+    assembled(&mut all, "one line", Text { table: none, text: "Ret r1\n", room: 2, lent: 0, expected: success(2) });
+    assembled(&mut all, "at the limits", Text { table: many, text, room: 65_536, lent: 8190, expected: success(65_536) });
+    assembled(&mut all, "at the limits, no label entries", Text { table: many, text, room: 65_536, lent: 0, expected: refusal(19, 0, 0) });
+    carried(&mut all, "an empty body, no strings", none, 0);
+    carried(&mut all, "an empty body, 65,536 strings", many, 0);
+    carried(&mut all, "65,536 bytes, no strings", none, 32_768);
+    carried(&mut all, "at the limits", many, 32_768);
+    all
 }

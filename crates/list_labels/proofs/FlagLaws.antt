@@ -9,9 +9,9 @@ use lib.ListN.{length, getD, set, take, replicate, length-set, length-append, ge
 use lib.Seq.{getD-set-same, getD-set-other, take-suc-set}
 use borrow.Author.Tests.{eq-eqb, ne-eqb}
 use Rattle.lists.specs.Choice.{pick, either}
-use Rattle.lists.proofs.Tests.{by-test, by-eqb}
+use Rattle.lists.proofs.Tests.{by-test, by-eqb, by-leb}
 use Rattle.spec_listing.specs.Labels.{among, different}
-use Rattle.list_labels.specs.Parts.{below, above}
+use Rattle.list_labels.specs.Parts.{below, above, within}
 use Rattle.list_labels.proofs.DifferentLaws.{among-append, among-one, different-more}
 use Rattle.list_labels.proofs.PartLaws.{below-append, above-append, below-low, below-high, above-low, above-high, among-below}
 use Rattle.list_labels.specs.Notes.{Notes, withFlag, withFar, note, noteAll}
@@ -74,7 +74,9 @@ module _ (k : List ℕ) (n : Notes) (x : ℕ) (m : Flagged k (n .flags)) where
       by-way n x (λ (n′ : Notes). Flagged (k ++ (x ∷ [])) (n′ .flags))
       (λ h e. marked-new h)
       (λ h e. marked-seen e h)
-      (λ h. marked-far h)
+      (λ h l k. marked-far h)
+      (λ h l. marked-far h)
+      (λ h k. marked-far h)
 
 -- the near offsets are marked and counted
 pub record Near (room : ℕ) (k : List ℕ) (n : Notes) : Type 0 where
@@ -113,82 +115,93 @@ module _ (room : ℕ) (k : List ℕ) (n : Notes) (x : ℕ) (g : Near room k n) w
         count = rw (more b, was-there (getD (n .flags) x 0) (among x k) (g .marked x h) e) (g .count);
       }
 
+  near-past : length (n .flags) ≤ x → n .near ≡ different (below room (k ++ (x ∷ [])))
+  near-past h = g .count ∙ sym (ap different (below-far (omega (arith, g .size))))
+
   near-far : length (n .flags) ≤ x → Near room (k ++ (x ∷ [])) (withFar n x)
-  near-far h = record {
-    size = g .size;
-    marked = marked-far k n x (g .marked) h;
-    count = g .count ∙ sym (ap different (below-far (omega (arith, g .size))));
-  }
+  near-far h = record { size = g .size; marked = marked-far k n x (g .marked) h; count = near-past h }
+
+  near-out : length (n .flags) ≤ x → Near room (k ++ (x ∷ [])) n
+  near-out h = record { size = g .size; marked = marked-far k n x (g .marked) h; count = near-past h }
 
   pub near-step : Near room (k ++ (x ∷ [])) (note n x)
-  near-step = by-way n x (Near room (k ++ (x ∷ []))) near-new near-seen near-far
+  near-step = by-way n x (Near room (k ++ (x ∷ []))) near-new near-seen (λ h l q. near-far h) (λ h l. near-out h) (λ h q. near-out h)
 
--- the far ones are counted, and stored where there is room for all
-pub record Far (room : ℕ) (k : List ℕ) (n : Notes) : Type 0 where
-  pub size : length (n .flags) ≡ room
-  pub count : n .far ≡ length (above room k)
-  pub kept : n .far ≤ length (n .stored) → take (n .far) (n .stored) ≡ above room k
+-- the far ones of a range past the flags are counted, and stored where there is room for all
+pub record Far (low high : ℕ) (k : List ℕ) (n : Notes) : Type 0 where
+  pub is-low : n .low ≡ low
+  pub is-high : n .high ≡ high
+  pub past : length (n .flags) ≤ low
+  pub count : n .far ≡ length (within low high k)
+  pub kept : n .far ≤ length (n .stored) → take (n .far) (n .stored) ≡ within low high k
 
-module _ (room : ℕ) (k : List ℕ) (n : Notes) (x : ℕ) (g : Far room k n) where
-  above-near : x < room → above room (k ++ (x ∷ [])) ≡ above room k
-  unfolding above
-  above-near h = above-append room k (x ∷ []) ∙ (ap (λ (l : List ℕ). above room k ++ l) (above-low room x [] h) ∙ append-nil (above room k))
+module _ (low high : ℕ) (k : List ℕ) (n : Notes) (x : ℕ) (g : Far low high k n) where
+  within-more : within low high (k ++ (x ∷ [])) ≡ within low high k ++ within low high (x ∷ [])
+  within-more = ap (above low) (below-append high k (x ∷ [])) ∙ above-append low (below high k) (below high (x ∷ []))
 
-  above-far : room ≤ x → above room (k ++ (x ∷ [])) ≡ above room k ++ (x ∷ [])
-  unfolding above
-  above-far h = above-append room k (x ∷ []) ∙ ap (λ (l : List ℕ). above room k ++ l) (above-high room x [] h)
+  one-out : within low high (x ∷ []) ≡ [] → within low high (k ++ (x ∷ [])) ≡ within low high k
+  one-out e = within-more ∙ (ap (λ (l : List ℕ). within low high k ++ l) e ∙ append-nil (within low high k))
 
-  far-new : x < length (n .flags) → getD (n .flags) x 0 ≡ 0 → Far room (k ++ (x ∷ [])) (withFlag n x)
+  front-out : x < low → within low high (x ∷ []) ≡ []
+  unfolding below above
+  front-out h = by-leb high x (λ q. rw (below-high high x [] q)) (λ q. rw (below-low high x [] q, above-low low x [] h))
+
+  past-out : high ≤ x → within low high (x ∷ []) ≡ []
+  unfolding below above
+  past-out h = rw (below-high high x [] h)
+
+  one-in : low ≤ x → x < high → within low high (k ++ (x ∷ [])) ≡ within low high k ++ (x ∷ [])
+  unfolding below above
+  one-in h q = within-more ∙ ap (λ (l : List ℕ). within low high k ++ l) (rw (below-low high x [] q, above-high low x [] h))
+
+  -- an offset outside the range changes nothing
+  far-out : within low high (x ∷ []) ≡ [] → Far low high (k ++ (x ∷ [])) n
+  far-out e = record { is-low = g .is-low; is-high = g .is-high; past = g .past; count = rw (one-out e) (g .count); kept = λ f. rw (one-out e) (g .kept f) }
+
+  far-new : x < length (n .flags) → getD (n .flags) x 0 ≡ 0 → Far low high (k ++ (x ∷ [])) (withFlag n x)
   far-new h e =
-      let b = above-near (omega (arith, g .size, h)) in
-      record { size = length-set (n .flags) x 1 ∙ g .size; count = rw b (g .count); kept = λ f. rw b (g .kept f) }
+      let o = one-out (front-out (omega (arith, g .past, h))) in
+      record { is-low = g .is-low; is-high = g .is-high; past = omega (arith, length-set (n .flags) x 1, g .past); count = rw o (g .count); kept = λ f. rw o (g .kept f) }
 
-  far-seen : x < length (n .flags) → (getD (n .flags) x 0 ≡ 0 → ⊥) → Far room (k ++ (x ∷ [])) n
-  far-seen h e =
-      let b = above-near (omega (arith, g .size, h)) in
-      record { size = g .size; count = rw b (g .count); kept = λ f. rw b (g .kept f) }
-
-  far-more : length (n .flags) ≤ x → Far room (k ++ (x ∷ [])) (withFar n x)
-  far-more h =
-      let b = above-far (omega (arith, g .size, h)) in
+  far-more : length (n .flags) ≤ x → n .low ≤ x → x < n .high → Far low high (k ++ (x ∷ [])) (withFar n x)
+  far-more h l q =
+      let b = one-in (omega (arith, g .is-low)) (omega (arith, g .is-high)) in
       record {
-        size = g .size;
-        count = rw b (omega (arith, g .count, length-append (above room k) (x ∷ [])));
+        is-low = g .is-low;
+        is-high = g .is-high;
+        past = g .past;
+        count = rw b (omega (arith, g .count, length-append (within low high k) (x ∷ [])));
         kept = λ f.
-            let l : n .far < length (n .stored) = omega (arith, f, length-set (n .stored) (n .far) x) in
-            take-suc-set (n .stored) (n .far) x l ∙ rw (g .kept (omega arith), b);
+            let r : n .far < length (n .stored) = omega (arith, f, length-set (n .stored) (n .far) x) in
+            take-suc-set (n .stored) (n .far) x r ∙ rw (g .kept (omega arith), b);
       }
 
-  pub far-step : Far room (k ++ (x ∷ [])) (note n x)
-  far-step = by-way n x (Far room (k ++ (x ∷ []))) far-new far-seen far-more
+  pub far-step : Far low high (k ++ (x ∷ [])) (note n x)
+  far-step =
+      by-way n x (Far low high (k ++ (x ∷ [])))
+      far-new
+      (λ h e. far-out (front-out (omega (arith, g .past, h))))
+      far-more
+      (λ h l. far-out (front-out (omega (arith, g .is-low))))
+      (λ h q. far-out (past-out (omega (arith, g .is-high))))
 
 -- before a walk
-pub near-start : (flags stored : List ℕ) → flags ≡ replicate (length flags) 0 → Near (length flags) [] (unnoted flags stored)
+pub near-start : (flags stored : List ℕ) (low high : ℕ) → flags ≡ replicate (length flags) 0 → Near (length flags) [] (unnoted flags stored low high)
 unfolding below among different
-near-start flags stored e = record {
+near-start flags stored low high e = record {
   size = refl;
   marked = λ i l. ap (λ (m : List ℕ). getD m i 0) e ∙ getD-replicate (length flags) i 0 0 l;
   count = refl;
 }
 
-pub far-start : (flags stored : List ℕ) → Far (length flags) [] (unnoted flags stored)
-unfolding above
-far-start flags stored = record { size = refl; count = refl; kept = λ f. refl }
+pub far-start : (flags stored : List ℕ) (low high : ℕ) → length flags ≤ low → Far low high [] (unnoted flags stored low high)
+unfolding below above
+far-start flags stored low high h = record { is-low = refl; is-high = refl; past = h; count = refl; kept = λ f. refl }
 
 -- and behind it
-module _ (flags stored l : List ℕ) where
-  pub near-all : flags ≡ replicate (length flags) 0 → Near (length flags) l (noteAll (unnoted flags stored) l)
-  near-all e = all-steps (Near (length flags)) (near-step (length flags)) [] (unnoted flags stored) l (near-start flags stored e)
+module _ (flags stored l : List ℕ) (low high : ℕ) where
+  pub near-all : flags ≡ replicate (length flags) 0 → Near (length flags) l (noteAll (unnoted flags stored low high) l)
+  near-all e = all-steps (Near (length flags)) (near-step (length flags)) [] (unnoted flags stored low high) l (near-start flags stored low high e)
 
-  pub far-all : Far (length flags) l (noteAll (unnoted flags stored) l)
-  far-all = all-steps (Far (length flags)) (far-step (length flags)) [] (unnoted flags stored) l (far-start flags stored)
-
-  -- flags that were set stay so in a second walk
-  pub marked-again : Flagged l flags → Flagged l (noteAll (unnoted flags stored) l .flags)
-  marked-again m i h =
-      all-steps (λ (k : List ℕ) (n : Notes). Flagged k (n .flags)) marked-step l (unnoted flags stored) l m i h
-      ∙ rw (among-append i l l, go (among i l))
-    where
-      go : (p : Bool) → either p p ≡ p
-      go true = refl
-      go false = refl
+  pub far-all : length flags ≤ low → Far low high l (noteAll (unnoted flags stored low high) l)
+  far-all h = all-steps (Far low high) (far-step low high) [] (unnoted flags stored low high) l (far-start flags stored low high h)

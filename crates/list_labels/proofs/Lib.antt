@@ -8,6 +8,9 @@ pub mod TargetLaws
 pub mod TargetsLoop
 pub mod InstructionLaws
 pub mod FlowLaws
+pub mod SmallLabels
+pub mod Filled
+pub mod OpcodeRowLaws
 pub mod DifferentLaws
 pub mod PartLaws
 pub mod PartLoop

@@ -6,12 +6,12 @@ use Prim.Native.Nat.{ℕ, suc, _+_, _≤_, _<_}
 use native.Mathlib.Omega.{arith}
 use native.Mathlib.Numerals.{add-one}
 use lib.ListN.{length, getD, set}
-use borrow.Author.Tests.{lt-ltb, le-ltb, eq-eqb, ne-eqb}
+use borrow.Author.Tests.{lt-ltb, le-ltb, le-leb, lt-leb, eq-eqb, ne-eqb}
 use Rattle.lists.specs.Choice.{pick}
 use Rattle.lists.proofs.Tests.{by-leb, by-eqb}
 use Rattle.list_labels.specs.Notes.{Notes, withFlag, withFar, note, noteAll}
 
--- a near offset that was not marked, one that was, and a far one
+-- a near offset that was not flagged, one that was, a far one of the range, and one in front of it or behind it
 module _ (n : Notes) (x : ℕ) where
   pub note-new : x < length (n .flags) → getD (n .flags) x 0 ≡ 0 → note n x ≡ withFlag n x
   unfolding note
@@ -21,33 +21,46 @@ module _ (n : Notes) (x : ℕ) where
   unfolding note
   note-seen h e = rw (lt-ltb x (length (n .flags)) h, ne-eqb (getD (n .flags) x 0) 0 e)
 
-  pub note-far : length (n .flags) ≤ x → note n x ≡ withFar n x
+  pub note-far : length (n .flags) ≤ x → n .low ≤ x → x < n .high → note n x ≡ withFar n x
   unfolding note
-  note-far h = rw (le-ltb x (length (n .flags)) h)
+  note-far h l k = rw (le-ltb x (length (n .flags)) h, le-leb (n .low) x l, lt-ltb x (n .high) k)
 
-  -- what holds of the three ways holds
+  pub note-front : length (n .flags) ≤ x → x < n .low → note n x ≡ n
+  unfolding note
+  note-front h l = rw (le-ltb x (length (n .flags)) h, lt-leb (n .low) x l)
+
+  pub note-past : length (n .flags) ≤ x → n .low ≤ x → n .high ≤ x → note n x ≡ n
+  unfolding note
+  note-past h l k = rw (le-ltb x (length (n .flags)) h, le-leb (n .low) x l, le-ltb x (n .high) k)
+
+  -- what holds of all ways holds
   pub by-way : (P : Notes → Type 0) → (x < length (n .flags) → getD (n .flags) x 0 ≡ 0 → P (withFlag n x))
-      → (x < length (n .flags) → (getD (n .flags) x 0 ≡ 0 → ⊥) → P n) → (length (n .flags) ≤ x → P (withFar n x)) → P (note n x)
-  by-way P a b c =
+      → (x < length (n .flags) → (getD (n .flags) x 0 ≡ 0 → ⊥) → P n) → (length (n .flags) ≤ x → n .low ≤ x → x < n .high → P (withFar n x))
+      → (length (n .flags) ≤ x → x < n .low → P n) → (length (n .flags) ≤ x → n .high ≤ x → P n) → P (note n x)
+  by-way P a b c d e =
       by-leb (length (n .flags)) x
-      (λ h. rw (note-far h) (c h))
-      (λ h. by-eqb (getD (n .flags) x 0) 0 (λ e. rw (note-new h e) (a h e)) (λ e. rw (note-seen h e) (b h e)))
+      (λ h. by-leb (n .low) x
+      (λ l. by-leb (n .high) x (λ k. rw (note-past h l k) (e h k)) (λ k. rw (note-far h l k) (c h l k)))
+      (λ l. rw (note-front h l) (d h l)))
+      (λ h. by-eqb (getD (n .flags) x 0) 0 (λ q. rw (note-new h q) (a h q)) (λ q. rw (note-seen h q) (b h q)))
 
   -- one offset counts once at most
   pub note-most : (note n x) .near + (note n x) .far ≤ suc (n .near + n .far)
-  note-most = by-way (λ (m : Notes). m .near + m .far ≤ suc (n .near + n .far)) (λ h e. omega arith) (λ h e. omega arith) (λ h. omega arith)
+  note-most =
+      by-way (λ (m : Notes). m .near + m .far ≤ suc (n .near + n .far)) (λ h e. omega arith) (λ h e. omega arith) (λ h l k. omega arith)
+      (λ h l. omega arith) (λ h k. omega arith)
 
 -- the same by what the code counts
-module _ (flags stored : List ℕ) (near far x : ℕ) where
+module _ (flags stored : List ℕ) (near far low high x : ℕ) where
   abbrev notes : Notes
-  notes = record { flags = flags; near = near; stored = stored; far = far }
+  notes = record { flags = flags; near = near; stored = stored; far = far; low = low; high = high }
 
-  pub was-new : x < length flags → getD flags x 0 ≡ 0 → record { flags = set flags x 1; near = near + 1; stored = stored; far = far } ≡ note notes x
+  pub was-new : x < length flags → getD flags x 0 ≡ 0 → record { flags = set flags x 1; near = near + 1; stored = stored; far = far; low = low; high = high } ≡ note notes x
   was-new h e = rw (add-one near) (sym (note-new notes x h e))
 
-  pub was-far : (stored′ : List ℕ) → length flags ≤ x → stored′ ≡ set stored far x
-      → record { flags = flags; near = near; stored = stored′; far = far + 1 } ≡ note notes x
-  was-far stored′ h e = rw (e, add-one far) (sym (note-far notes x h))
+  pub was-far : (stored′ : List ℕ) → length flags ≤ x → low ≤ x → x < high → stored′ ≡ set stored far x
+      → record { flags = flags; near = near; stored = stored′; far = far + 1; low = low; high = high } ≡ note notes x
+  was-far stored′ h l k e = rw (e, add-one far) (sym (note-far notes x h l k))
 
 -- offsets one behind the other
 pub all-append : (n : Notes) (a b : List ℕ) → noteAll n (a ++ b) ≡ noteAll (noteAll n a) b

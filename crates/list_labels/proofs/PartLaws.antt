@@ -1,5 +1,5 @@
 -- Laws of numbers parted by a bound. Assumes nothing.
-use mathlib.Core.Path.{_≡_, refl, ap}
+use mathlib.Core.Path.{_≡_, refl, ap, sym}
 use mathlib.Core.Bool.{Bool, true, false}
 use mathlib.Core.List.{List, [], _∷_, _++_}
 use Prim.Native.Nat.{ℕ, suc, _+_, _≤_, _<_}
@@ -10,7 +10,7 @@ use lib.ListN.{length, getD}
 use Rattle.lists.specs.Choice.{pick, either}
 use Rattle.lists.proofs.Tests.{by-leb}
 use Rattle.spec_listing.specs.Labels.{among, different}
-use Rattle.list_labels.specs.Parts.{below, above, Between}
+use Rattle.list_labels.specs.Parts.{below, above, within, Between}
 use Rattle.list_labels.specs.Parts.Between.{none, one}
 
 -- where a number goes
@@ -97,6 +97,71 @@ different-parts b (x ∷ l) =
     low : (m n k : ℕ) → m + n ≡ k → (p : Bool) → pick p m (suc m) + n ≡ pick p k (suc k)
     low m n k h true = h
     low m n k h false = omega arith
+
+-- a part of a part
+pub below-below : (a b : ℕ) (l : List ℕ) → a ≤ b → below a (below b l) ≡ below a l
+unfolding below
+below-below a b [] h = refl
+below-below a b (x ∷ l) h =
+    by-leb b x
+    (λ g. rw (below-high b x l g, below-high a x l (omega arith)) (below-below a b l h))
+    (λ g. rw (below-low b x l g)
+    (by-leb a x
+    (λ k. rw (below-high a x (below b l) k, below-high a x l k) (below-below a b l h))
+    (λ k. rw (below-low a x (below b l) k, below-low a x l k) (ap (λ (r : List ℕ). x ∷ r) (below-below a b l h)))))
+
+pub above-above : (a b : ℕ) (l : List ℕ) → a ≤ b → above b (above a l) ≡ above b l
+unfolding above
+above-above a b [] h = refl
+above-above a b (x ∷ l) h =
+    by-leb a x
+    (λ g. rw (above-high a x l g)
+    (by-leb b x
+    (λ k. rw (above-high b x (above a l) k, above-high b x l k) (ap (λ (r : List ℕ). x ∷ r) (above-above a b l h)))
+    (λ k. rw (above-low b x (above a l) k, above-low b x l k) (above-above a b l h))))
+    (λ g. rw (above-low a x l g, above-low b x l (omega arith)) (above-above a b l h))
+
+pub below-above : (a b : ℕ) (l : List ℕ) → below b (above a l) ≡ above a (below b l)
+unfolding below above
+below-above a b [] = refl
+below-above a b (x ∷ l) =
+    by-leb a x
+    (λ g. rw (above-high a x l g)
+    (by-leb b x
+    (λ k. rw (below-high b x (above a l) k, below-high b x l k) (below-above a b l))
+    (λ k. rw (below-low b x (above a l) k, below-low b x l k, above-high a x (below b l) g) (ap (λ (r : List ℕ). x ∷ r) (below-above a b l)))))
+    (λ g. rw (above-low a x l g)
+    (by-leb b x
+    (λ k. rw (below-high b x l k) (below-above a b l))
+    (λ k. rw (below-low b x l k, above-low a x (below b l) g) (below-above a b l))))
+
+-- the different numbers of a range are those of its halves
+pub different-halves : (low mid high : ℕ) (l : List ℕ) → low ≤ mid → mid ≤ high → different (within low mid l) + different (within mid high l) ≡ different (within low high l)
+different-halves low mid high l h k =
+    rw (sym (ap (above low) (below-below mid high l k)), sym (below-above low mid (below high l)), sym (above-above low mid (below high l) h))
+    (different-parts mid (within low high l))
+
+-- numbers that are all below a bound
+pub below-all : (high : ℕ) {l : List ℕ} → Between 0 high l → below high l ≡ l
+unfolding below
+below-all high none = refl
+below-all high (one {x} {xs = l} a b r) = rw (below-low high x l b) (ap (λ (k : List ℕ). x ∷ k) (below-all high r))
+
+pub between-append : (low high : ℕ) {k l : List ℕ} → Between low high k → Between low high l → Between low high (k ++ l)
+between-append low high none m = m
+between-append low high (one a b r) m = one a b (between-append low high r m)
+
+-- the numbers of a range are of it
+pub within-between : (low high : ℕ) (l : List ℕ) → Between low high (within low high l)
+unfolding below above
+within-between low high [] = none
+within-between low high (x ∷ l) =
+    by-leb high x
+    (λ g. rw (below-high high x l g) (within-between low high l))
+    (λ g. rw (below-low high x l g)
+    (by-leb low x
+    (λ k. rw (above-high low x (below high l) k) (one k g (within-between low high l)))
+    (λ k. rw (above-low low x (below high l) k) (within-between low high l))))
 
 -- the parts of a range
 pub between-below : (low mid high : ℕ) {l : List ℕ} → Between low high l → Between low mid (below mid l)

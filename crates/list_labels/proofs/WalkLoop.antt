@@ -10,8 +10,7 @@ use Rattle.spec_body.specs.Record.{recordOf}
 use Rattle.spec_body.specs.Decode.{Decoded, prepend, rowAt, decodeFrom, decodeBody}
 use Rattle.spec_body.specs.Decode.Decoded.{decoded, notDecoded}
 use Rattle.spec_body.proofs.DecodeLaws.{at-end, at-beyond, at-cut, at-more}
-use Rattle.spec_inputs.specs.Context.{Context}
-use Rattle.spec_listing.specs.Labels.{labelsOf, labelOffsets}
+use Rattle.list_labels.specs.OpcodeRows.{Opcodes, recordLabels, rowLabels}
 use Rattle.list_labels.specs.Notes.{Notes, noteAll}
 use Rattle.list_labels.specs.InstructionNotes.{labelsIn}
 use Rattle.list_labels.specs.Readable.{readableFrom, readable}
@@ -24,21 +23,21 @@ use Rattle.list_labels.proofs.NoteLaws.{all-append, all-none}
 use Rattle.list_labels.proofs.InstructionLaws.{labels-record}
 
 -- an instruction more in front
-walk-more : (e : Context) (n : Notes) (r : List ℕ) (d : Decoded) → walkOf e n (prepend r d) ≡ walkOf e (noteAll n (labelsOf e r)) d
-unfolding walkOf prepend labelOffsets
-walk-more e n r (decoded rs) = rw (all-append n (labelsOf e r) (labelOffsets e rs))
+walk-more : (e : Opcodes) (n : Notes) (r : List ℕ) (d : Decoded) → walkOf e n (prepend r d) ≡ walkOf e (noteAll n (recordLabels e r)) d
+unfolding walkOf prepend rowLabels
+walk-more e n r (decoded rs) = rw (all-append n (recordLabels e r) (rowLabels e rs))
 walk-more e n r (notDecoded x) = refl
 
-notes-more : (e : Context) (n : Notes) (r : List ℕ) (rs : List (List ℕ)) → notesAfter e n (r ∷ rs) ≡ notesAfter e (noteAll n (labelsOf e r)) rs
-unfolding labelOffsets
-notes-more e n r rs = all-append n (labelsOf e r) (labelOffsets e rs)
+notes-more : (e : Opcodes) (n : Notes) (r : List ℕ) (rs : List (List ℕ)) → notesAfter e n (r ∷ rs) ≡ notesAfter e (noteAll n (recordLabels e r)) rs
+unfolding rowLabels
+notes-more e n r rs = all-append n (recordLabels e r) (rowLabels e rs)
 
-notes-none : (e : Context) (n : Notes) → notesAfter e n [] ≡ n
-unfolding labelOffsets
+notes-none : (e : Opcodes) (n : Notes) → notesAfter e n [] ≡ n
+unfolding rowLabels
 notes-none e n = all-none n
 
 -- the instructions in front of `at` are noted, and those from there on complete the walk
-pub record Going (e : Context) (last : ℕ) (s : List ℕ) (n₀ n : Notes) (at : ℕ) : Type 0 where
+pub record Going (e : Opcodes) (last : ℕ) (s : List ℕ) (n₀ n : Notes) (at : ℕ) : Type 0 where
   pub steps : ℕ
   pub below : steps ≤ at
   pub inside : at ≤ length s
@@ -48,8 +47,8 @@ pub record Going (e : Context) (last : ℕ) (s : List ℕ) (n₀ n : Notes) (at 
   pub left : walkOf e n₀ (decodeBody (e .types) last s) ≡ walkOf e n (decodeFrom (length s - steps) (e .types) last s at)
   pub noted : notesAfter e n₀ (readable (e .types) last s) ≡ notesAfter e n (readableFrom (length s - steps) (e .types) last s at)
 
-pub start : (e : Context) (last : ℕ) (s flags stored : List ℕ) → Going e last s (unnoted flags stored) (unnoted flags stored) 0
-start e last s flags stored = record {
+pub start : (e : Opcodes) (last : ℕ) (s flags stored : List ℕ) (low high : ℕ) → Going e last s (unnoted flags stored low high) (unnoted flags stored low high) 0
+start e last s flags stored low high = record {
   steps = 0;
   below = omega arith;
   inside = omega arith;
@@ -61,11 +60,11 @@ start e last s flags stored = record {
 }
 
 -- what a walk answers and leaves, however it ends
-pub record Ended (e : Context) (last : ℕ) (s : List ℕ) (n₀ : Notes) (r : Walked) (flags stored : List ℕ) : Type 0 where
+pub record Ended (e : Opcodes) (last : ℕ) (s : List ℕ) (n₀ : Notes) (r : Walked) (flags stored : List ℕ) : Type 0 where
   pub answered : (r ≡ walkOf e n₀ (decodeBody (e .types) last s)) × (walkedCount r ≤ length s)
   pub left-noted : Noted e (readable (e .types) last s) n₀ flags stored
 
-module _ (e : Context) (last : ℕ) (s : List ℕ) (n₀ n : Notes) (at : ℕ) (g : Going e last s n₀ n at) where
+module _ (e : Opcodes) (last : ℕ) (s : List ℕ) (n₀ n : Notes) (at : ℕ) (g : Going e last s n₀ n at) where
   abbrev Ends : Walked → Type 0
   Ends r = Ended e last s n₀ r (n .flags) (n .stored)
 
@@ -80,7 +79,7 @@ module _ (e : Context) (last : ℕ) (s : List ℕ) (n₀ n : Notes) (at : ℕ) (
 
   -- at the end
   pub ended : length s ≤ at → Ends (Met (n .near) (n .far))
-  unfolding walkOf walkedCount labelOffsets
+  unfolding walkOf walkedCount rowLabels
   ended h =
       ends (Met (n .near) (n .far)) (omega (arith, g .few, g .inside))
       (rw (at-end (e .types) last s (length s - g .steps) at h, all-none n) refl)
@@ -111,13 +110,13 @@ module _ (e : Context) (last : ℕ) (s : List ℕ) (n₀ n : Notes) (at : ℕ) (
           (none-cut (e .types) last s _ at h l (omega (arith, q)))
 
       pub turn : (n′ : Notes) → size ≤ length s - at → length (n′ .flags) ≡ length (n .flags) → length (n′ .stored) ≡ length (n .stored)
-          → n′ ≡ noteAll n (labelsIn (e .sheet) (getD (e .infos) (getD s at 0) []) (rowAt (e .types) s at) s at) → n′ .near + n′ .far ≤ at + size
+          → n′ ≡ noteAll n (labelsIn (getD (e .rows) (getD s at 0) []) (rowAt (e .types) s at) s at) → n′ .near + n′ .far ≤ at + size
           → Going e last s n₀ n′ (at + size)
       turn n′ k u v w f =
           let r = recordOf (rowAt (e .types) s at) s at in
           let d = at-more (e .types) last s (length s - (g .steps + 1)) at (at + size) next-is h l (omega arith) in
           let o = one-more (e .types) last s (length s - (g .steps + 1)) at h l (omega (arith, q)) in
-          let m : noteAll n (labelsOf e r) ≡ n′ = sym (w ∙ rw (labels-record e s at)) in
+          let m : noteAll n (recordLabels e r) ≡ n′ = sym (w ∙ rw (labels-record e s at)) in
           record {
             steps = g .steps + 1;
             below = omega (arith, g .below, q);

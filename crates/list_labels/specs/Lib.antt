@@ -3,4 +3,5 @@ pub mod Collecting
 pub mod Notes
 pub mod InstructionNotes
 pub mod FlowNames
+pub mod OpcodeRows
 pub mod Parts

@@ -14,6 +14,10 @@ unfoldable pub above : ℕ → List ℕ → List ℕ
 above bound [] = []
 above bound (x ∷ xs) = pick (ltb x bound) (above bound xs) (x ∷ above bound xs)
 
+-- those of a range
+abbrev pub within : ℕ → ℕ → List ℕ → List ℕ
+within low high xs = above low (below high xs)
+
 -- every number is from `low` on and below `high`
 pub data Between (low high : ℕ) : List ℕ → Type 0 where
   none : Between low high []

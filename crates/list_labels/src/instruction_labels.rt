@@ -2,6 +2,7 @@
 ghost use mathlib.Core.Path.{_≡_};
 ghost use mathlib.Core.List.{[], _∷_};
 ghost use Prim.Native.Nat.{_+_, _≤_, _<_};
+ghost use lib.Dec.{eqb};
 ghost use lib.ListN.{length};
 ghost use Rattle.limits.specs.Limits.{bodyLimit};
 ghost use Rattle.lists.specs.Choice.{pick};
@@ -10,16 +11,14 @@ ghost use Rattle.spec_numbers.specs.LittleEndian.{le};
 ghost use Rattle.spec_sheet.specs.Types.{widthOf};
 ghost use Rattle.spec_sheet.specs.Row.{lengthOf};
 ghost use Rattle.spec_body.specs.Record.{pairs};
-ghost use Rattle.spec_listing.specs.Labels.{endsFlow, targets};
+ghost use Rattle.spec_listing.specs.Labels.{targets};
 ghost use Rattle.list_labels.specs.Notes.{notesOf, noteAll};
-ghost use Rattle.list_labels.specs.FlowNames.{nameShown};
 ghost use Rattle.list_labels.specs.InstructionNotes.{targetIn, labelsIn};
 use crate::offset_set::Counts;
 use crate::offset_set::note;
+use crate::opcode_rows::FLOW_END;
+use crate::opcode_rows::JUMP;
 use sheet::operand_types::ADDR_FAMILY;
-use sheet::rows::JUMP_MARK;
-use sheet::rows::NAME_SIZE;
-use sheet::rows::NAME_START;
 
 // Notes the target of an operand at p of the jump at `at`, where it is an Addr's and not negative.
 fn note_target(
@@ -72,30 +71,27 @@ fn note_targets(
     c
 }
 
-// Notes the offset behind an instruction whose name is one that ends the flow.
+// Notes the offset behind an instruction that ends the flow.
 fn note_behind(
-    sheet: &[u8],
-    start: usize,
-    size: usize,
+    flow_end: u8,
     flags: &mut [u8],
     stored: &mut [u32],
     counts: Counts,
     next: u32,
 ) -> Counts
     requires { ⌜ counts .near + counts .far < 18446744073709551615 ⌝ }
-    ensures { λ r. ⌜ notesOf (now (flags .exit)) (now (stored .exit)) r ≡ noteAll (notesOf (now (flags .entry)) (now (stored .entry)) counts) (pick (endsFlow (nameShown (now (sheet .entry)) start size)) (next ∷ []) []) ⌝ }
+    ensures { λ r. ⌜ notesOf (now (flags .exit)) (now (stored .exit)) r ≡ noteAll (notesOf (now (flags .entry)) (now (stored .entry)) counts) (pick (eqb «flow_end» 1) (next ∷ []) []) ⌝ }
 {
-    if crate::flow_end::ends_flow(sheet, start, size) {
+    if flow_end == 1 {
         return note(flags, stored, counts, next);
     }
     counts
 }
 
-// Notes the label offsets that the instruction at `at` contributes; `info` has its name and jump mark.
+// Notes the label offsets that the instruction at `at` contributes, by its opcode's row and type codes.
 pub(crate) fn note_instruction(
-    sheet: &[u8],
-    info: [usize; 4],
-    row: [u8; 8],
+    row: [u8; 3],
+    codes: [u8; 8],
     s: &[u8],
     at: usize,
     size: usize,
@@ -103,22 +99,14 @@ pub(crate) fn note_instruction(
     stored: &mut [u32],
     counts: Counts,
 ) -> Counts
-    requires { ⌜ (size ≡ lengthOf row) × (at + size ≤ length (now s)) × (length (now s) ≤ bodyLimit) × (counts .near + counts .far ≤ at) ⌝ }
-    ensures { λ r. ⌜ notesOf (now (flags .exit)) (now (stored .exit)) r ≡ noteAll (notesOf (now (flags .entry)) (now (stored .entry)) counts) (labelsIn (now (sheet .entry)) info row (now (s .entry)) at) ⌝ }
+    requires { ⌜ (size ≡ lengthOf codes) × (at + size ≤ length (now s)) × (length (now s) ≤ bodyLimit) × (counts .near + counts .far ≤ at) ⌝ }
+    ensures { λ r. ⌜ notesOf (now (flags .exit)) (now (stored .exit)) r ≡ noteAll (notesOf (now (flags .entry)) (now (stored .entry)) counts) (labelsIn row codes (now (s .entry)) at) ⌝ }
     ensures { λ r. ⌜ r .near + r .far ≤ at + size ⌝ }
 {
     let next = (at + size) as u32;
-    let c = note_behind(
-        sheet,
-        info[NAME_START],
-        info[NAME_SIZE],
-        flags,
-        stored,
-        counts,
-        next,
-    );
-    if info[JUMP_MARK] == 1 {
-        return note_targets(flags, stored, c, row, s, at);
+    let c = note_behind(row[FLOW_END], flags, stored, counts, next);
+    if row[JUMP] == 1 {
+        return note_targets(flags, stored, c, codes, s, at);
     }
     c
 }

@@ -5,10 +5,13 @@ ghost use lib.ListN.{set};
 ghost use Rattle.list_labels.specs.Notes as notes;
 ghost use Rattle.list_labels.specs.Notes.{notesOf};
 
-// How many near offsets are flagged, and how many far ones were met.
+// How many near offsets are flagged, and how many far ones were met: those past the flags that are from `low` on and below
+// `high`.
 pub struct Counts {
     pub near: usize,
     pub far: usize,
+    pub low: usize,
+    pub high: usize,
 }
 
 // Stores a far offset as the n-th, where there is room.
@@ -27,6 +30,8 @@ pub(crate) fn note(flags: &mut [u8], stored: &mut [u32], counts: Counts, x: u32)
 {
     let near = counts.near;
     let far = counts.far;
+    let low = counts.low;
+    let high = counts.high;
     let at = x as usize;
     if at < flags.len() {
         if flags[at] == 0 {
@@ -34,10 +39,22 @@ pub(crate) fn note(flags: &mut [u8], stored: &mut [u32], counts: Counts, x: u32)
             return Counts {
                 near: near + 1,
                 far,
+                low,
+                high,
             };
         }
         return counts;
     }
-    store_far(stored, far, x);
-    Counts { near, far: far + 1 }
+    if low <= at {
+        if at < high {
+            store_far(stored, far, x);
+            return Counts {
+                near,
+                far: far + 1,
+                low,
+                high,
+            };
+        }
+    }
+    counts
 }

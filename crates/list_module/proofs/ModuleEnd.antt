@@ -19,9 +19,9 @@ use Rattle.list_module.specs.Modules.ModuleWritten.{within, over, ended}
 
 -- a module's listing that was written and finished
 pub module-end : (before now after : List ℕ) (p : Part) (lent : ℕ) (r : ListAnswer) {x : Listed} → r ≡ answerOf p lent (length now) → after ≡ outputAfter p lent now
-    → ModuleWritten x before now p → Ended (listOutcome x) before (lent ∷ []) after (listReport r)
-module-end before now after p lent r a z (within t k n e q w) = rw e (text-end before now after p lent r a z t q w)
-module-end before now after p lent r a z (over t k n e q h g l) = rw e (over-end before now after p lent r a z t q h g l)
+    → ModuleWritten lent x before now p → Ended (listOutcome x) before (lent ∷ []) after (listReport r)
+module-end before now after p lent r a z (within t k m n e q c w) = rw e (text-end before now after p lent r a z t q c w)
+module-end before now after p lent r a z (over t k m n e q h g l) = rw e (over-end before now after p lent r a z t m q h g l)
 module-end before now after p lent r a z (ended f e q c) = rw e (stopped-end before now after p lent r a z f q c)
 
 -- the module's outcome under inputs that were read

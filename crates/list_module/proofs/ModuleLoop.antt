@@ -14,6 +14,7 @@ use Rattle.spec_listing.specs.Options.{Options}
 use Rattle.spec_listing.specs.Listing.{Listed, append}
 use Rattle.spec_listing.specs.Listing.Listed.{listed, notListed}
 use Rattle.spec_listing.specs.Module.{Area, listFunctionIn, listFunctionsFrom, listAll}
+use Rattle.list_labels.specs.Collecting.{EntriesFor}
 use Rattle.listing.specs.Bodies.{Written}
 use Rattle.listing.specs.declared.body.Part.{Part}
 use Rattle.listing.specs.declared.body.Part.the-variants as part
@@ -44,24 +45,37 @@ append-both t u n m (listed v k) =
     rw (append-assoc t u v, z)
 append-both t u n m (notListed x) = refl
 
+-- the entries of several functions: the most that one needs
+most-entries : {lent a b m n : ℕ} → EntriesFor lent a m → EntriesFor lent b n → EntriesFor lent (max a b) (max m n)
+most-entries {lent} {a} {b} {m} {n} x y = (
+  omega (arith, x .0, y .0),
+  λ h. by-leb m lent
+      (λ l. by-leb n lent (λ k. absurd (omega arith)) (λ k. omega (arith, x .0, y .1 k)))
+      (λ l. by-leb n lent (λ k. omega (arith, x .1 l, y .0)) (λ k. omega (arith, x .1 l, y .1 k))),
+)
+
 -- the listing of the functions so far, before `rest`; its text is in the buffer while it is within the limit
-pub record Going (whole rest : Listed) (out₀ out : List ℕ) (at most : ℕ) : Type 0 where
+pub record Going (lent : ℕ) (whole rest : Listed) (out₀ out : List ℕ) (at most : ℕ) : Type 0 where
   pub so-far : List ℕ
-  pub is-whole : whole ≡ append (listed so-far most) rest
+  pub needed : ℕ
+  pub is-whole : whole ≡ append (listed so-far needed) rest
+  pub counted : EntriesFor lent needed most
   pub at-is : at ≡ min (length so-far) 1048577
   pub put : at ≤ 1048576 → Put out₀ 0 so-far out at
   pub same-size : length out ≡ length out₀
 
-module _ {whole : Listed} {out₀ : List ℕ} where
-  start : length out₀ ≤ top → Going whole whole out₀ out₀ 0 0
-  start h = record { so-far = []; is-whole = append-first whole; at-is = refl; put = λ l. wrote-none h (omega arith); same-size = refl }
+module _ {lent : ℕ} {whole : Listed} {out₀ : List ℕ} where
+  start : length out₀ ≤ top → Going lent whole whole out₀ out₀ 0 0
+  start h = record { so-far = []; needed = 0; is-whole = append-first whole; counted = (omega arith, λ l. refl); at-is = refl; put = λ l. wrote-none h (omega arith); same-size = refl }
 
-  turn-text : {x rest : Listed} {out out′ : List ℕ} {at most k n : ℕ} → Going whole (append x rest) out₀ out at most → Text x out at out′ k n → Going whole rest out₀ out′ (min k 1048577) (max most n)
+  turn-text : {x rest : Listed} {out out′ : List ℕ} {at most k n : ℕ} → Going lent whole (append x rest) out₀ out at most → Text lent x out at out′ k n → Going lent whole rest out₀ out′ (min k 1048577) (max most n)
   turn-text {x} {rest} {out} {out′} {at} {most} {k} {n} g w =
       let l = length-append (g .so-far) (w .lines) in
       record {
         so-far = g .so-far ++ w .lines;
-        is-whole = g .is-whole ∙ rw (w .is-text) (append-both (g .so-far) (w .lines) most n rest);
+        needed = max (g .needed) (w .needed);
+        is-whole = g .is-whole ∙ rw (w .is-text) (append-both (g .so-far) (w .lines) (g .needed) (w .needed) rest);
+        counted = most-entries (g .counted) (w .counted);
         at-is = omega (arith, g .at-is, w .put .next, l);
         put = λ h.
             let e : min k 1048577 ≡ k = omega arith in
@@ -71,26 +85,26 @@ module _ {whole : Listed} {out₀ : List ℕ} where
       }
 
   -- a function that is listed, one that is refused, and the end
-  turn : {x more rest : Listed} {out out′ : List ℕ} {at most k n at′ most′ : ℕ} {r : Part} → Going whole more out₀ out at most → more ≡ append x rest
-      → Written x out at out′ r → r ≡ part.Listed k n → at′ ≡ min k 1048577 → most′ ≡ max most n → Going whole rest out₀ out′ at′ most′
+  turn : {x more rest : Listed} {out out′ : List ℕ} {at most k n at′ most′ : ℕ} {r : Part} → Going lent whole more out₀ out at most → more ≡ append x rest
+      → Written lent x out at out′ r → r ≡ part.Listed k n → at′ ≡ min k 1048577 → most′ ≡ max most n → Going lent whole rest out₀ out′ at′ most′
   turn g e w q a m = rw (a, m) (turn-text (rw e at g) (was-listed w q))
 
-  stopped : (rest : Listed) {x more : Listed} {out out′ : List ℕ} {at most : ℕ} {r : Part} (f : Refusal) → Going whole more out₀ out at most → more ≡ append x rest
-      → Written x out at out′ r → r ≡ part.Refused f → ModuleWritten whole out₀ out′ r
+  stopped : (rest : Listed) {x more : Listed} {out out′ : List ℕ} {at most : ℕ} {r : Part} (f : Refusal) → Going lent whole more out₀ out at most → more ≡ append x rest
+      → Written lent x out at out′ r → r ≡ part.Refused f → ModuleWritten lent whole out₀ out′ r
   unfolding append
   stopped rest {out = out} {out′ = out′} f g e w q =
       let s = was-stopped w q in
       ended f (g .is-whole ∙ rw (e, s .is-refused)) q (zeros-of out out₀ out′ (g .same-size) (s .cleared))
 
-  finished : {out : List ℕ} {at most : ℕ} → Going whole (listed [] 0) out₀ out at most → ModuleWritten whole out₀ out (part.Listed at most)
+  finished : {out : List ℕ} {at most : ℕ} → Going lent whole (listed [] 0) out₀ out at most → ModuleWritten lent whole out₀ out (part.Listed at most)
   finished {out} {at} {most} g =
-      let e = g .is-whole ∙ append-last (g .so-far) most in
+      let e = g .is-whole ∙ append-last (g .so-far) (g .needed) in
       by-leb at 1048576
-      (λ l. within (g .so-far) at most e refl (g .put l))
-      (λ l. over (g .so-far) at most e refl l (omega (arith, g .at-is)) (g .same-size))
+      (λ l. within (g .so-far) at (g .needed) most e refl (g .counted) (g .put l))
+      (λ l. over (g .so-far) at (g .needed) most e refl l (omega (arith, g .at-is)) (g .same-size))
 
 -- the functions from `id` on
-module _ (o : Options) (e : Context) (last : ℕ) (a : Area) where
+module _ (o : Options) (e : Context) (lent last : ℕ) (a : Area) where
   abbrev pub restFrom : ℕ → Listed
   restFrom id = listFunctionsFrom (functionCount (a .functions) - id) o e last a id
 
@@ -107,7 +121,7 @@ module _ (o : Options) (e : Context) (last : ℕ) (a : Area) where
       rw (n, listFunctionsFrom)
 
   abbrev pub Listing : List ℕ → List ℕ → ℕ → ℕ → ℕ → Type 0
-  Listing out₀ out id at most = Going (listAll o e last a) (restFrom id) out₀ out at most
+  Listing out₀ out id at most = Going lent (listAll o e last a) (restFrom id) out₀ out at most
 
   module _ {out₀ : List ℕ} where
     pub listing-start : length out₀ ≤ top → Listing out₀ out₀ 0 0 0
@@ -116,12 +130,12 @@ module _ (o : Options) (e : Context) (last : ℕ) (a : Area) where
         rw n (start h)
 
     pub listing-turn : {out out′ : List ℕ} {id at most k n at′ most′ : ℕ} {r : Part} → Listing out₀ out id at most → id < functionCount (a .functions)
-        → Written (listFunctionIn o e last a id) out at out′ r → r ≡ part.Listed k n → at′ ≡ min k 1048577 → most′ ≡ max most n → Listing out₀ out′ (id + 1) at′ most′
+        → Written lent (listFunctionIn o e last a id) out at out′ r → r ≡ part.Listed k n → at′ ≡ min k 1048577 → most′ ≡ max most n → Listing out₀ out′ (id + 1) at′ most′
     listing-turn {id = id} g h w q z y = turn g (rest-more id h) w q z y
 
     pub listing-stopped : {out out′ : List ℕ} {id at most : ℕ} {r : Part} (f : Refusal) → Listing out₀ out id at most → id < functionCount (a .functions)
-        → Written (listFunctionIn o e last a id) out at out′ r → r ≡ part.Refused f → ModuleWritten (listAll o e last a) out₀ out′ r
+        → Written lent (listFunctionIn o e last a id) out at out′ r → r ≡ part.Refused f → ModuleWritten lent (listAll o e last a) out₀ out′ r
     listing-stopped {id = id} f g h w q = stopped (restFrom (id + 1)) f g (rest-more id h) w q
 
-    pub listing-finished : {out : List ℕ} {id at most : ℕ} → Listing out₀ out id at most → functionCount (a .functions) ≤ id → ModuleWritten (listAll o e last a) out₀ out (part.Listed at most)
+    pub listing-finished : {out : List ℕ} {id at most : ℕ} → Listing out₀ out id at most → functionCount (a .functions) ≤ id → ModuleWritten lent (listAll o e last a) out₀ out (part.Listed at most)
     listing-finished {id = id} g h = finished (rw (rest-none id h) at g)

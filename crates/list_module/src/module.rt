@@ -13,9 +13,11 @@ ghost use Rattle.listing.specs.Parts.{optionsOf};
 ghost use Rattle.spec_inputs.specs.Context.{contextFrom};
 ghost use Rattle.listing.specs.Answers.{listReport};
 ghost use Rattle.listing.specs.Functions.{areaOf};
+ghost use Rattle.list_labels.specs.OpcodeRows.{OpcodeRows};
 ghost use Rattle.list_module.specs.Modules.{ModuleWritten};
 use listing::answer::ListAnswer;
 use listing::body::Part;
+use listing::body::Room;
 use listing::options::Options;
 use operation::inputs::Inputs;
 use slices::write::clear;
@@ -46,15 +48,18 @@ fn list_functions(
     sheet: &[u8],
     types: &[[u8; 8]; 256],
     ops: &[[usize; 4]; 256],
+    rows: &[[u8; 3]; 256],
     last: usize,
     bytes: &[u8],
     ends: &[u32],
     functions: &[u32],
     area: &[u8],
     base: u32,
+    lent: usize,
     out: &mut [u8],
 ) -> Part
-    ensures { λ r. ⌜ ModuleWritten (listAll (optionsOf options) (contextFrom (now (sheet .entry)) (now (types .entry)) (now (ops .entry)) (now (bytes .entry)) (now (ends .entry))) last (areaOf (now (functions .entry)) (now (area .entry)) base)) (now (out .entry)) (now (out .exit)) r ⌝ }
+    requires { ⌜ OpcodeRows (now sheet) (now types) (now ops) last (now rows) ⌝ }
+    ensures { λ r. ⌜ ModuleWritten lent (listAll (optionsOf options) (contextFrom (now (sheet .entry)) (now (types .entry)) (now (ops .entry)) (now (bytes .entry)) (now (ends .entry))) last (areaOf (now (functions .entry)) (now (area .entry)) base)) (now (out .entry)) (now (out .exit)) r ⌝ }
 {
     let mut id: usize = 0;
     let mut at: usize = 0;
@@ -66,14 +71,15 @@ fn list_functions(
             sheet,
             types,
             ops,
+            rows,
             last,
             bytes,
             ends,
             area,
             place,
             id,
+            Room { from: at, lent },
             out,
-            at,
         );
         let Part::Listed(k, entries) = p else {
             return p;
@@ -102,17 +108,20 @@ fn module_under(
 ) -> ListAnswer
     ensures { λ r. ⌜ Ended (listOutcome (listAll (optionsOf options) (contextFrom (now (sheet .entry)) (now (types .entry)) (now (ops .entry)) (now (bytes .entry)) (now (ends .entry))) last (areaOf (now (functions .entry)) (now (area .entry)) base))) (now (out .entry)) (lent ∷ []) (now (out .exit)) (listReport r) ⌝ }
 {
+    let rows = list_labels::opcode_rows::opcode_rows(sheet, types, ops, last);
     let p = list_functions(
         options,
         sheet,
         types,
         ops,
+        &rows,
         last,
         bytes,
         ends,
         functions,
         area,
         base,
+        lent,
         out,
     );
     listing::answer::finish(p, lent, out)

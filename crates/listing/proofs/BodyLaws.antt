@@ -2,25 +2,28 @@
 use mathlib.Core.Path.{_≡_, refl, ap, sym, _∙_}
 use mathlib.Core.Bool.{Bool, true, false}
 use mathlib.Core.List.{List}
-use Prim.Native.Nat.{ℕ}
+use Prim.Native.Nat.{ℕ, _<_}
 use native.Mathlib.Omega.{arith}
 use lib.Dec.{eqb}
-use lib.ListN.{length, replicate, length-replicate}
+use lib.ListN.{length, getD, replicate, length-replicate}
 use Rattle.lists.specs.Choice.{pick}
 use Rattle.spec_body.specs.Decode.{Decoded, decodeBody}
 use Rattle.spec_body.specs.Decode.Decoded.{decoded, notDecoded}
 use Rattle.answers.specs.Report.{zeros}
 use Rattle.answers.specs.declared.refusal.Refusal.{Refusal}
 use Rattle.answers.specs.declared.refusal.Refusal.the-variants.{LongLine}
-use Rattle.spec_inputs.specs.Context.{Context, contextFrom}
+use Rattle.spec_inputs.specs.Context.{Context}
 use Rattle.spec_listing.specs.Options.{Options}
 use Rattle.spec_listing.specs.Labels.{labelOffsets, among, different}
 use Rattle.spec_listing.specs.Listing.{Listed, longLine, unlessLong, listDecoded, listedText, listEntries}
 use Rattle.list_labels.specs.Readable.{readable}
+use Rattle.list_labels.specs.OpcodeRows.{OpcodeRows, opcodesOf, rowLabels}
 use Rattle.list_labels.specs.Collecting as collecting
-use Rattle.list_labels.specs.Collecting.{tables, collectedOf}
+use Rattle.list_labels.specs.Collecting.{CollectedFor, EntriesFor}
+use Rattle.list_labels.specs.Collecting.CollectedFor.{counted, refused}
 use Rattle.list_labels.proofs.ReadableLaws.{all-readable}
-use Rattle.list_labels.proofs.CollectLaws.{same-labels}
+use Rattle.list_labels.proofs.OpcodeRowLaws.{same-labels}
+use Rattle.list_labels.specs.declared.collect.Collected.{Collected}
 use Rattle.list_labels.specs.declared.collect.Collected.the-variants as collected
 use Rattle.listing.specs.Parts.{Decodes, recordsOf, Flagged, Lined}
 use Rattle.listing.specs.Parts.Lined.{all, over}
@@ -32,70 +35,75 @@ use Rattle.listing.specs.declared.body.Part.{Part}
 use Rattle.listing.specs.declared.body.Part.the-variants as part
 use Rattle.operation.proofs.EndLaws.{zeros-of}
 
--- labels depend on no string
-pub strings-aside : (source : List ℕ) (types ops : List (List ℕ)) (bytes ends : List ℕ) (rs : List (List ℕ)) → labelOffsets (tables source types ops) rs ≡ labelOffsets (contextFrom source types ops bytes ends) rs
-strings-aside source types ops bytes ends rs = sym (same-labels (contextFrom source types ops bytes ends) rs)
-
 -- what was collected, from the answer
-pub record Entries (e : Context) (d : Decoded) (n : ℕ) : Type 0 where
+pub record Entries (e : Context) (lent : ℕ) (d : Decoded) (n : ℕ) : Type 0 where
   pub records : List (List ℕ)
   pub are : d ≡ decoded records
-  pub count : n ≡ different (labelOffsets e records)
+  pub count : EntriesFor lent (different (labelOffsets e records)) n
 
-pub was-entries : (e : Context) (d : Decoded) (n : ℕ) → collectedOf e d ≡ collected.Entries n → Entries e d n
-unfolding collectedOf
-was-entries e (decoded rs) n q = record { records = rs; are = refl; count = cc q }
-was-entries e (notDecoded x) n q = absurd (let z : _≡_ {A = ℕ} 0 1 = cc q in omega arith)
+-- under a sheet's tables, with their rows of opcodes, for the bytes s
+module _ (e : Context) (last : ℕ) (rows : List (List ℕ)) (s : List ℕ) (lent : ℕ) {r : Collected} (w : CollectedFor lent (opcodesOf (e .types) rows) (decodeBody (e .types) last s) r) where
+  pub was-entries : (n : ℕ) → OpcodeRows (e .sheet) (e .types) (e .infos) last rows → ((i : ℕ) → getD s i 0 < 256) → r ≡ collected.Entries n → Entries e lent (decodeBody (e .types) last s) n
+  was-entries n g h q = go w
+    where
+      go : CollectedFor lent (opcodesOf (e .types) rows) (decodeBody (e .types) last s) r → Entries e lent (decodeBody (e .types) last s) n
+      go (counted rs m p x c) =
+          let same : m ≡ n = cc (sym x ∙ q) in
+          record { records = rs; are = p; count = rw (sym (same-labels e last rows g s rs h p), sym same) c }
+      go (refused f p x) = absurd (let z : _≡_ {A = ℕ} 0 1 = cc (sym x ∙ q) in omega arith)
 
-pub was-refused : (e : Context) (d : Decoded) (x : Refusal) → collectedOf e d ≡ collected.Refused x → d ≡ notDecoded x
-unfolding collectedOf
-was-refused e (decoded rs) x q = absurd (let z : _≡_ {A = ℕ} 0 1 = cc q in omega arith)
-was-refused e (notDecoded y) x q = let z : y ≡ x = cc q in ap notDecoded z
+  pub was-refused : (x : Refusal) → r ≡ collected.Refused x → decodeBody (e .types) last s ≡ notDecoded x
+  was-refused x q = go w
+    where
+      go : CollectedFor lent (opcodesOf (e .types) rows) (decodeBody (e .types) last s) r → decodeBody (e .types) last s ≡ notDecoded x
+      go (counted rs m p y c) = absurd (let z : _≡_ {A = ℕ} 0 1 = cc (sym y ∙ q) in omega arith)
+      go (refused f p y) = let same : f ≡ x = cc (sym y ∙ q) in p ∙ ap notDecoded same
 
 one-is : (b : Bool) → eqb (pick b 1 0) 1 ≡ b
 one-is true = refl
 one-is false = refl
 
 -- the flags are those that the lines ask for
-pub flags-say : (source : List ℕ) (types ops : List (List ℕ)) (bytes ends : List ℕ) (last : ℕ) (s flags : List ℕ) (n : ℕ) → Entries (tables source types ops) (decodeBody types last s) n
-    → collecting.Flagged (labelOffsets (tables source types ops) (readable types last s)) flags → Flagged flags (labelOffsets (contextFrom source types ops bytes ends) (recordsOf (decodeBody types last s)))
+pub flags-say : (e : Context) (last : ℕ) (rows : List (List ℕ)) (s flags : List ℕ) (lent n : ℕ) → OpcodeRows (e .sheet) (e .types) (e .infos) last rows → ((i : ℕ) → getD s i 0 < 256)
+    → Entries e lent (decodeBody (e .types) last s) n → collecting.Flagged (rowLabels (opcodesOf (e .types) rows) (readable (e .types) last s)) flags
+    → Flagged flags (labelOffsets e (recordsOf (decodeBody (e .types) last s)))
 unfolding recordsOf
-flags-say source types ops bytes ends last s flags n x m i h =
-    let a = rw (all-readable types last s (x .records) (x .are)) at (m i h) in
-    let b = strings-aside source types ops bytes ends (x .records) in
-    rw (x .are, a, b) (one-is (among i (labelOffsets (contextFrom source types ops bytes ends) (x .records))))
+flags-say e last rows s flags lent n g l x m i h =
+    let a = rw (all-readable (e .types) last s (x .records) (x .are), same-labels e last rows g s (x .records) l (x .are)) at (m i h) in
+    rw (x .are, a) (one-is (among i (labelOffsets e (x .records))))
 
-pub decodes : (types : List (List ℕ)) (last : ℕ) (s : List ℕ) (e : Context) (n : ℕ) → Entries e (decodeBody types last s) n → Decodes types last s
-decodes types last s e n x = record { records = x .records; are = x .are }
+pub decodes : (types : List (List ℕ)) (last : ℕ) (s : List ℕ) (e : Context) (lent n : ℕ) → Entries e lent (decodeBody types last s) n → Decodes types last s
+decodes types last s e lent n x = record { records = x .records; are = x .are }
 
-module _ (o : Options) (source : List ℕ) (types ops : List (List ℕ)) (bytes ends indent : List ℕ) (d : Decoded) (out : List ℕ) («from» : ℕ) (out′ : List ℕ) where
-  abbrev ed : Context
-  ed = contextFrom source types ops bytes ends
+-- so many are lent, or so many are counted, with labels shown or not
+pick-entries : (show : Bool) {lent needed n : ℕ} → EntriesFor lent needed n → EntriesFor lent (pick show needed 0) (pick show n 0)
+pick-entries true h = h
+pick-entries false h = (omega arith, λ l. refl)
 
+module _ (o : Options) (e : Context) (lent : ℕ) (indent : List ℕ) (d : Decoded) (out : List ℕ) («from» : ℕ) (out′ : List ℕ) where
   abbrev Lines-of : Lines → Type 0
-  Lines-of r = Lined (listedText o ed (labelOffsets ed (recordsOf d)) indent (recordsOf d)) (longLine o ed indent (recordsOf d)) out «from» out′ r
+  Lines-of r = Lined (listedText o e (labelOffsets e (recordsOf d)) indent (recordsOf d)) (longLine o e indent (recordsOf d)) out «from» out′ r
 
-  pub all-listed : (n m k : ℕ) → Entries (tables source types ops) d n → m ≡ pick (o .showLabels) n 0 → Lines-of (lines.To k) → Written (listDecoded o ed indent d) out «from» out′ (part.Listed k m)
+  pub all-listed : (n m k : ℕ) → Entries e lent d n → m ≡ pick (o .showLabels) n 0 → Lines-of (lines.To k) → Written lent (listDecoded o e indent d) out «from» out′ (part.Listed k m)
   unfolding listDecoded unlessLong recordsOf listEntries
   all-listed n m k x q (all k′ l r w) =
       let c : k′ ≡ k = cc (sym r) in
-      let b = strings-aside source types ops bytes ends (x .records) in
-      let f : m ≡ listEntries o ed (x .records) = q ∙ ap (λ (j : ℕ). pick (o .showLabels) j 0) (x .count ∙ ap different b) in
-      whole (listedText o ed (labelOffsets ed (recordsOf d)) indent (recordsOf d)) k m (rw (x .are, f) (rw (rw (x .are) at l))) refl (rw (sym c) w)
+      whole (listedText o e (labelOffsets e (recordsOf d)) indent (recordsOf d)) k (listEntries o e (x .records)) m (rw (x .are) (rw (rw (x .are) at l))) refl
+      (rw q (pick-entries (o .showLabels) (x .count))) (rw (sym c) w)
   all-listed n m k x q (over at l r) = absurd (let z : _≡_ {A = ℕ} 0 1 = cc r in omega arith)
 
   -- the lines were written as far as one that is too long, and then cleared
-  pub one-long : {r : Part} (n at : ℕ) (after : List ℕ) → Entries (tables source types ops) d n → Lines-of (lines.Long at) → r ≡ part.Refused (LongLine at) → length out′ ≡ length out → after ≡ zeros out′
-      → Written (listDecoded o ed indent d) out «from» after r
+  pub one-long : {r : Part} (n at : ℕ) (after : List ℕ) → Entries e lent d n → Lines-of (lines.Long at) → r ≡ part.Refused (LongLine at) → length out′ ≡ length out → after ≡ zeros out′
+      → Written lent (listDecoded o e indent d) out «from» after r
   unfolding listDecoded unlessLong recordsOf
   one-long n at after x (all k l r w) q h z = absurd (let y : _≡_ {A = ℕ} 0 1 = cc r in omega arith)
   one-long n at after x (over at′ l r) q h z =
       let c : at′ ≡ at = cc (sym r) in
       stopped (LongLine at) (rw (x .are) (rw (rw (x .are) at l, c))) q (zeros-of out′ out after h z)
 
-  pub not-decoded : {r : Part} (x : Refusal) → d ≡ notDecoded x → r ≡ part.Refused x → out′ ≡ zeros out → Written (listDecoded o ed indent d) out «from» out′ r
+  pub not-decoded : {r : Part} (x : Refusal) → d ≡ notDecoded x → r ≡ part.Refused x → out′ ≡ zeros out → Written lent (listDecoded o e indent d) out «from» out′ r
   unfolding listDecoded
-  not-decoded x q e z = stopped x (rw q) e z
+  not-decoded x q p z = stopped x (rw q) p z
 
 -- what was cleared is all zero
 pub zeroed : (m m′ : List ℕ) → m′ ≡ replicate (length m) 0 → m′ ≡ replicate (length m′) 0

@@ -4,7 +4,9 @@ use mathlib.Core.List.{List, [], _∷_}
 use Prim.Native.Nat.{ℕ, _<_}
 use native.Mathlib.Omega.{arith}
 use lib.ListN.{length}
-use borrow.Author.Tests.{lt-ltb}
+use borrow.Author.Tests.{lt-ltb, le-ltb}
+use Rattle.lists.proofs.Tests.{by-leb}
+use Rattle.list_labels.specs.Collecting.{EntriesFor}
 use Rattle.lists.specs.Write.{Put}
 use Rattle.limits.specs.Limits.{listingLimit}
 use Rattle.answers.specs.Report.{zeros}
@@ -32,6 +34,14 @@ unfolding measuredReport listReport measuredAnswer
 same-report k Fits = refl
 same-report k TooLarge = refl
 same-report k Short = refl
+
+-- whether enough entries are lent is the same by what is needed and by what was counted
+same-measure : (k limit needed n lent room : ℕ) → EntriesFor lent needed n → measuredOf k limit n lent room ≡ measuredOf k limit needed lent room
+unfolding measuredOf
+same-measure k limit needed n lent room c =
+    by-leb n lent
+    (λ h. rw (le-ltb lent n h, le-ltb lent needed (omega (arith, c .0))))
+    (λ h. rw (c .1 h))
 
 -- a listed part, by its numbers
 module _ {p : Part} {k entries : ℕ} (e : p ≡ part.Listed k entries) (lent : ℕ) (out : List ℕ) where
@@ -69,17 +79,18 @@ module _ (before now after : List ℕ) (p : Part) (lent : ℕ) (r : ListAnswer) 
   Ends x = Ended (listOutcome x) before (lent ∷ []) after (listReport r)
 
   -- a listing that was written
-  pub text-end : (t : List ℕ) {k entries : ℕ} → p ≡ part.Listed k entries → Put before 0 t now k → Ends (listed t entries)
+  pub text-end : (t : List ℕ) {k needed entries : ℕ} → p ≡ part.Listed k entries → EntriesFor lent needed entries → Put before 0 t now k → Ends (listed t needed)
   unfolding listOutcome
-  text-end t {k} {entries} e w =
+  text-end t {k} {needed} {entries} e c w =
       let m = measuredOf k listingLimit entries lent (length now) in
       let answer : r ≡ measuredAnswer k m = a ∙ listed-answer e lent now in
-      rw (answer, sym (same-report k m)) (measured-end listingLimit (omega arith) t before now k entries lent w m after refl (z ∙ listed-output e lent now))
+      rw (answer, sym (same-report k m))
+      (measured-end listingLimit (omega arith) t before now k needed lent w m after (same-measure k listingLimit needed entries lent (length now) c) (z ∙ listed-output e lent now))
 
   -- one past its limit, whatever of it was written
-  pub over-end : (t : List ℕ) {k entries : ℕ} → p ≡ part.Listed k entries → listingLimit < k → listingLimit < length t → length now ≡ length before → Ends (listed t entries)
+  pub over-end : (t : List ℕ) (needed : ℕ) {k entries : ℕ} → p ≡ part.Listed k entries → listingLimit < k → listingLimit < length t → length now ≡ length before → Ends (listed t needed)
   unfolding listOutcome measured measuredAnswer leftBy listReport
-  over-end t {k} {entries} e h g l =
+  over-end t needed {k} {entries} e h g l =
       let m = sym (is-large k listingLimit entries lent (length now) h) in
       let answer : r ≡ Refused refusal.TooLarge = a ∙ listed-answer e lent now ∙ ap (measuredAnswer k) m in
       let left : after ≡ zeros now = z ∙ listed-output e lent now ∙ ap (λ (n : Measured). leftBy n now) m in
@@ -92,6 +103,6 @@ module _ (before now after : List ℕ) (p : Part) (lent : ℕ) (r : ListAnswer) 
       let answer : r ≡ Refused f = a ∙ refused-answer e lent now in
       refused-end _ f before _ after _ refl (ap listReport answer) (z ∙ refused-output e lent now ∙ c)
 
-  pub written-end : {x : Listed} → Written x before 0 now p → Ends x
-  written-end (whole t k n e q w) = rw e (text-end t q w)
+  pub written-end : {x : Listed} → Written lent x before 0 now p → Ends x
+  written-end (whole t k m n e q c w) = rw e (text-end t q c w)
   written-end (stopped f e q c) = rw e (stopped-end f q c)

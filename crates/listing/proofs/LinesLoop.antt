@@ -155,6 +155,9 @@ own-line l = l .indent-put then l .text-put
 inside-next : (p : Printing) {at : ℕ} {rest : List (List ℕ)} → Next (p .types) (p .last) (p .s) at rest → at + sizeAt p at ≤ length (p .s)
 inside-next p (one rest′ q y z d) = z
 
+known-next : (p : Printing) {at : ℕ} {rest : List (List ℕ)} → Next (p .types) (p .last) (p .s) at rest → getD (p .s) at 0 ≤ p .last
+known-next p (one rest′ q y z d) = y
+
 long-from : (p : Printing) {at : ℕ} {rest : List (List ℕ)} → Next (p .types) (p .last) (p .s) at rest → 4096 < length (bare p (recordAt p at)) → longIn p rest ≡ found at
 long-from p (one rest′ q y z d) h = rw q (line-long p (recordAt p _) rest′ h)
 
@@ -165,6 +168,10 @@ module _ {p : Printing} {rs : List (List ℕ)} {out₀ : List ℕ} {«from» : �
   -- an instruction that is reached is whole
   pub inside : {out : List ℕ} {k at : ℕ} → Going p rs out₀ «from» out k at → at < length (p .s) → at + sizeAt p at ≤ length (p .s)
   inside g h = inside-next p (next (g .stand) h)
+
+  -- and its opcode is one of the sheet's
+  pub known : {out : List ℕ} {k at : ℕ} → Going p rs out₀ «from» out k at → at < length (p .s) → getD (p .s) at 0 ≤ p .last
+  known g h = known-next p (next (g .stand) h)
 
   -- where a line starts, counting did not stop
   low-start : {at k a c : ℕ} {out out′ : List ℕ} → Given p «from» → Going p rs out₀ «from» out k at → at < length (p .s) → Line p at out k out′ a c → (a ≤ k + 30) × (a ≤ 2 ^ 40)

@@ -9,6 +9,7 @@ ghost use Rattle.lists.specs.Choice.{pick};
 ghost use Rattle.answers.specs.Report.{zeros};
 ghost use Rattle.listing.specs.Parts.{optionsOf};
 ghost use Rattle.spec_inputs.specs.Context.{contextFrom};
+ghost use Rattle.list_labels.specs.OpcodeRows.{OpcodeRows};
 ghost use Rattle.listing.specs.Bodies.{Written};
 ghost use Rattle.listing.specs.declared.body.Part.the-variants.{Refused};
 use crate::body_lines::Lines;
@@ -17,7 +18,8 @@ use answers::refusal::Refusal;
 use list_labels::collect::Collected;
 use slices::write::clear;
 
-// A part of a listing: the next position and the label entries needed; or why it is refused.
+// A part of a listing: the next position and the label entries needed, exactly where they are more than are lent; or why it is
+// refused.
 pub enum Part {
     Listed(usize, usize),
     Refused(Refusal),
@@ -39,26 +41,36 @@ fn entries_for(labels: bool, n: usize) -> usize
     if labels { n } else { 0 }
 }
 
+// Where a part starts in the output, and how many label entries are lent.
+pub struct Room {
+    pub from: usize,
+    pub lent: usize,
+}
+
 // With flags that are lent and zero.
 fn list_flagged(
     options: Options,
     sheet: &[u8],
     types: &[[u8; 8]; 256],
     ops: &[[usize; 4]; 256],
+    rows: &[[u8; 3]; 256],
     last: usize,
     bytes: &[u8],
     ends: &[u32],
     s: &[u8],
     indent: &[u8],
+    room: Room,
     out: &mut [u8],
-    from: usize,
     flags: &mut [u8],
 ) -> Part
     requires { ⌜ now flags ≡ replicate (length (now flags)) 0 ⌝ }
-    requires { ⌜ (length (now s) ≤ length (now flags)) × (length (now s) ≤ bodyLimit) × (length (now indent) ≤ 2) × («from» ≤ 2 * listingLimit) ⌝ }
-    ensures { λ r. ⌜ Written (listDecoded (optionsOf options) (contextFrom (now (sheet .entry)) (now (types .entry)) (now (ops .entry)) (now (bytes .entry)) (now (ends .entry))) (now (indent .entry)) (decodeBody (now (types .entry)) last (now (s .entry)))) (now (out .entry)) «from» (now (out .exit)) r ⌝ }
+    requires { ⌜ OpcodeRows (now sheet) (now types) (now ops) last (now rows) ⌝ }
+    requires { ⌜ (length (now s) ≤ length (now flags)) × (length (now flags) ≤ bodyLimit) × (length (now indent) ≤ 2) × (room .«from» ≤ 2 * listingLimit) ⌝ }
+    ensures { λ r. ⌜ Written (room .lent) (listDecoded (optionsOf options) (contextFrom (now (sheet .entry)) (now (types .entry)) (now (ops .entry)) (now (bytes .entry)) (now (ends .entry))) (now (indent .entry)) (decodeBody (now (types .entry)) last (now (s .entry)))) (now (out .entry)) (room .«from») (now (out .exit)) r ⌝ }
 {
-    let c = list_labels::collect::collect_label_offsets(sheet, types, ops, last, s, flags);
+    let lent = room.lent;
+    let from = room.from;
+    let c = list_labels::collect::collect_label_offsets(types, rows, last, s, lent, flags);
     match c {
         Collected::Entries(n) => {
             let l = crate::body_lines::list_lines(
@@ -66,6 +78,7 @@ fn list_flagged(
                 sheet,
                 types,
                 ops,
+                rows,
                 last,
                 bytes,
                 ends,
@@ -102,16 +115,18 @@ pub fn list_body(
     sheet: &[u8],
     types: &[[u8; 8]; 256],
     ops: &[[usize; 4]; 256],
+    rows: &[[u8; 3]; 256],
     last: usize,
     bytes: &[u8],
     ends: &[u32],
     s: &[u8],
     indent: &[u8],
+    room: Room,
     out: &mut [u8],
-    from: usize,
 ) -> Part
-    requires { ⌜ (length (now s) ≤ bodyLimit) × (length (now indent) ≤ 2) × («from» ≤ 2 * listingLimit) ⌝ }
-    ensures { λ r. ⌜ Written (listDecoded (optionsOf options) (contextFrom (now (sheet .entry)) (now (types .entry)) (now (ops .entry)) (now (bytes .entry)) (now (ends .entry))) (now (indent .entry)) (decodeBody (now (types .entry)) last (now (s .entry)))) (now (out .entry)) «from» (now (out .exit)) r ⌝ }
+    requires { ⌜ OpcodeRows (now sheet) (now types) (now ops) last (now rows) ⌝ }
+    requires { ⌜ (length (now s) ≤ bodyLimit) × (length (now indent) ≤ 2) × (room .«from» ≤ 2 * listingLimit) ⌝ }
+    ensures { λ r. ⌜ Written (room .lent) (listDecoded (optionsOf options) (contextFrom (now (sheet .entry)) (now (types .entry)) (now (ops .entry)) (now (bytes .entry)) (now (ends .entry))) (now (indent .entry)) (decodeBody (now (types .entry)) last (now (s .entry)))) (now (out .entry)) (room .«from») (now (out .exit)) r ⌝ }
 {
     if s.len() <= SMALL_BODY {
         let mut flags = few_flags();
@@ -121,13 +136,14 @@ pub fn list_body(
             sheet,
             types,
             ops,
+            rows,
             last,
             bytes,
             ends,
             s,
             indent,
+            room,
             out,
-            from,
             &mut flags,
         );
     }
@@ -138,13 +154,14 @@ pub fn list_body(
         sheet,
         types,
         ops,
+        rows,
         last,
         bytes,
         ends,
         s,
         indent,
+        room,
         out,
-        from,
         &mut flags,
     )
 }

@@ -8,8 +8,11 @@ ghost use Rattle.spec_listing.specs.Labels.{labelOffsets};
 ghost use Rattle.spec_listing.specs.Listing.{labelLine, longLine, listedText};
 ghost use Rattle.listing.specs.Parts.{Decodes, Flagged, recordsOf, Lined, flaggedText, optionsOf};
 ghost use Rattle.spec_inputs.specs.Context.{contextFrom};
+ghost use Rattle.list_labels.specs.OpcodeRows.{Sized};
 use crate::options::Options;
+use list_labels::opcode_rows::SIZE;
 use numbers::print_decimal::put_decimal;
+use slices::widen::byte_index;
 use slices::write::put_byte;
 use slices::write::put_bytes;
 
@@ -54,6 +57,7 @@ pub(crate) fn list_lines(
     sheet: &[u8],
     types: &[[u8; 8]; 256],
     ops: &[[usize; 4]; 256],
+    rows: &[[u8; 3]; 256],
     last: usize,
     bytes: &[u8],
     ends: &[u32],
@@ -63,7 +67,7 @@ pub(crate) fn list_lines(
     out: &mut [u8],
     from: usize,
 ) -> Lines
-    requires { ⌜ Decodes (now types) last (now s) ⌝ }
+    requires { ⌜ Decodes (now types) last (now s) × Sized (now types) last (now rows) ⌝ }
     requires { ⌜ Flagged (now flags) (labelOffsets (contextFrom (now sheet) (now types) (now ops) (now bytes) (now ends)) (recordsOf (decodeBody (now types) last (now s)))) ⌝ }
     requires { ⌜ (length (now s) ≤ length (now flags)) × (length (now s) ≤ bodyLimit) × (length (now indent) ≤ 2) × («from» ≤ 2 * listingLimit) ⌝ }
     ensures { λ r. ⌜ Lined
@@ -75,8 +79,8 @@ pub(crate) fn list_lines(
     let mut at: usize = 0;
     while at < s.len() {
         let op = s[at] as usize;
-        let row = types[op];
-        let size = sheet::row::instruction_length(row);
+        let row = rows[op];
+        let size = byte_index(row[SIZE]);
         let a = put_flagged_label(out, k, options.show_labels, flags, indent, at);
         let b = put_bytes(out, a, indent);
         let c = crate::instruction::put_instruction(

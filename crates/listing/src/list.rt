@@ -14,6 +14,7 @@ ghost use Rattle.answers.specs.Report.{cleared};
 ghost use Rattle.answers.specs.Outcome.{Ended};
 ghost use Rattle.listing.specs.Answers.{listReport};
 use crate::answer::ListAnswer;
+use crate::body::Room;
 use crate::options::Options;
 use answers::refusal::Refusal;
 use operation::inputs::Inputs;
@@ -35,18 +36,20 @@ pub fn list_under(
     requires { ⌜ length (now s) ≤ bodyLimit ⌝ }
     ensures { λ r. ⌜ Ended (listOutcome (listDecoded (optionsOf options) (contextFrom (now (sheet .entry)) (now (types .entry)) (now (ops .entry)) (now (bytes .entry)) (now (ends .entry))) [] (decodeBody (now (types .entry)) last (now (s .entry))))) (now (out .entry)) (lent ∷ []) (now (out .exit)) (listReport r) ⌝ }
 {
+    let rows = list_labels::opcode_rows::opcode_rows(sheet, types, ops, last);
     let p = crate::body::list_body(
         options,
         sheet,
         types,
         ops,
+        &rows,
         last,
         bytes,
         ends,
         s,
         b"",
+        Room { from: 0, lent },
         out,
-        0,
     );
     crate::answer::finish(p, lent, out)
 }

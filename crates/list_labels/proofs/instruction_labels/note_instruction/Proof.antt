@@ -14,9 +14,6 @@ cast-next c = search needs
 array-read-note-behind : tie.Need-array-read-note-behind
 array-read-note-behind c = search needs
 
-array-read-note-behind-2 : tie.Need-array-read-note-behind-2
-array-read-note-behind-2 c = search needs
-
 note-behind-requires : tie.Need-note-behind-requires
 note-behind-requires c κs = search needs
 
@@ -25,11 +22,11 @@ array-read-if1 c = search needs
 
 note-targets-requires : tie.Need-note-targets-requires
 note-targets-requires c κs =
-    let a = c .before .before .before .before .before .before .before .before .before .before .before .before .before .before in
+    let a = c .before .before .before .before .before .before .before .before .before .before .before .before .before in
     let x = a .args in
     let n = notesOf (x .flags .now) (x .stored .now) (x .counts) in
     let b = c .before .before .before .before .before .before .before .note-behind in
-    (search needs, search needs, behind-few (x .sheet .now) (x .t2) (x .row) (x .s .now) (x .at) (x .size) n _ (a .pre .0) (b .ensures) (a .pre .3))
+    (search needs, search needs, behind-few (x .t1) (x .codes) (x .s .now) (x .at) (x .size) n _ (a .pre .0) (b .ensures) (a .pre .3))
 
 same-length : tie.Need-same-length
 same-length c = search needs
@@ -39,12 +36,12 @@ same-length-2 c = search needs
 
 returns : tie.Need-returns
 returns c =
-    let a = c .before .before .before .before .before .before .before .before .before .before .before .before .before .before .before .before .before .before .before in
+    let a = c .before .before .before .before .before .before .before .before .before .before .before .before .before .before .before .before .before .before in
     let x = a .args in
     let n = notesOf (x .flags .now) (x .stored .now) (x .counts) in
     let b = c .before .before .before .before .before .before .before .before .before .before .before .before .note-behind in
     let t = c .before .before .before .before .note-targets in
-    (jump-noted (x .sheet .now) (x .t2) (x .row) (x .s .now) (x .at) (x .size) n _ (a .pre .0) (b .ensures) (a .pre .3) _ (c .before .before .before .before .before .before .before .if1 .taken) (t .ensures .0), omega (arith, a .pre .0, t .ensures .1))
+    (jump-noted (x .t1) (x .codes) (x .s .now) (x .at) (x .size) n _ (a .pre .0) (b .ensures) (a .pre .3) _ (c .before .before .before .before .before .before .before .if1 .taken) (t .ensures .0), omega (arith, a .pre .0, t .ensures .1))
 
 same-length-3 : tie.Need-same-length-3
 same-length-3 c = search needs
@@ -54,12 +51,12 @@ same-length-4 c = search needs
 
 returns-2 : tie.Need-returns-2
 returns-2 c =
-    let a = c .before .before .before .before .before .before .before .before .before .before .before .before in
+    let a = c .before .before .before .before .before .before .before .before .before .before .before in
     let x = a .args in
     let n = notesOf (x .flags .now) (x .stored .now) (x .counts) in
     let b = c .before .before .before .before .before .note-behind in
-    let f = plain-few (x .sheet .now) (x .t2) (x .row) (x .s .now) (x .at) (x .size) n _ (a .pre .0) (b .ensures) (a .pre .3) in
-    (plain-noted (x .sheet .now) (x .t2) (x .row) (x .s .now) (x .at) (x .size) n _ (a .pre .0) (b .ensures) (a .pre .3) (c .if1 .left), f)
+    let f = plain-few (x .t1) (x .codes) (x .s .now) (x .at) (x .size) n _ (a .pre .0) (b .ensures) (a .pre .3) in
+    (plain-noted (x .t1) (x .codes) (x .s .now) (x .at) (x .size) n _ (a .pre .0) (b .ensures) (a .pre .3) (c .if1 .left), f)
 
 pub note-instruction-spec : {M : Type 1} → statement M
 note-instruction-spec =
@@ -68,7 +65,6 @@ note-instruction-spec =
     add-next
     cast-next
     array-read-note-behind
-    array-read-note-behind-2
     note-behind-requires
     array-read-if1
     note-targets-requires

@@ -16,7 +16,7 @@ list-titled-requires : tie.Need-list-titled-requires
 list-titled-requires c κs =
     let start = c .before .before .before .before .before .before .before .before .before .before in
     let f = c .before .before .before .place .given in
-    (part-size (start .args .area .now) (f .0 .0 .start) (f .0 .0 .size) (c .before .part-of .ensures) (start .pre .0 _ (f .1) .1), start .pre .1)
+    (start .pre .0, (part-size (start .args .area .now) (f .0 .0 .start) (f .0 .0 .size) (c .before .part-of .ensures) (start .pre .1 .0 _ (f .1) .1), start .pre .1 .1))
 
 enum-known-place-2 : tie.Need-enum-known-place-2
 enum-known-place-2 c = search needs

@@ -1,3 +1,4 @@
+use native.Mathlib.Omega.{arith}
 use Rattle.listing.specs.Parts.{optionsOf}
 use Rattle.spec_inputs.specs.Context.{contextFrom}
 use Rattle.list_module.proofs.ModuleLaws.{titled-long, titled-listed}
@@ -22,7 +23,7 @@ returns c =
     let x = c .before .before .before .before .before .before .before .before .before .before .before .before .before .before in
     let a = x .args in
     let f = c .before .before .refuse-part .ensures in
-    titled-long (optionsOf (a .options)) (contextFrom (a .sheet .now) (a .types .now) (a .ops .now) (a .bytes .now) (a .ends .now)) (a .last) (a .id) (a .name) (a .s .now) (x .pre .1) (c .before .before .before .before .before .before .before .put-title .ensures) (c .before .before .before .before .if1 .taken) (f .0) (f .1)
+    titled-long (optionsOf (a .options)) (contextFrom (a .sheet .now) (a .types .now) (a .ops .now) (a .bytes .now) (a .ends .now)) (a .room .lent) (a .last) (a .id) (a .name) (a .s .now) (x .pre .1 .1) (c .before .before .before .before .before .before .before .put-title .ensures) (c .before .before .before .before .if1 .taken) (f .0) (f .1)
 
 put-byte-requires : tie.Need-put-byte-requires
 put-byte-requires c κs = search needs
@@ -31,7 +32,7 @@ slice-aggregate-list-body : tie.Need-slice-aggregate-list-body
 slice-aggregate-list-body c = search needs
 
 list-body-requires : tie.Need-list-body-requires
-list-body-requires c κs = search needs
+list-body-requires c κs = let q = c .before .before .before .before .before .before .before .before .before .before .before .before .before .before .before .before .pre in (q .0, (q .1 .0, omega arith, omega (arith, q .1 .1, c .before .before .before .before .put-byte .ensures .next, c .before .before .before .before .before .before .before .before .before .put-title .ensures .next, c .before .before .before .before .before .before .if1 .left)))
 
 end-part-requires : tie.Need-end-part-requires
 end-part-requires c κs = search needs
@@ -42,7 +43,7 @@ same-length-2 c = search needs
 returns-2 : tie.Need-returns-2
 returns-2 c =
     let a = c .before .before .before .before .before .before .before .before .before .before .before .before .before .before .before .before .before .before .before .before .before .before .before .args in
-    titled-listed (optionsOf (a .options)) (contextFrom (a .sheet .now) (a .types .now) (a .ops .now) (a .bytes .now) (a .ends .now)) (a .last) (a .id) (a .name) (a .s .now) (c .before .before .before .before .before .before .before .before .before .before .before .before .before .before .before .before .before .before .before .before .before .before .before .pre .1) (c .before .before .before .before .before .before .before .before .before .before .before .before .before .before .before .before .put-title .ensures) (c .before .before .before .before .before .before .before .before .before .before .before .before .before .if1 .left) (c .before .before .before .before .before .before .before .before .before .before .before .put-byte .ensures) (c .before .before .before .before .before .before .list-body .ensures) (c .before .before .end-part .ensures)
+    titled-listed (optionsOf (a .options)) (contextFrom (a .sheet .now) (a .types .now) (a .ops .now) (a .bytes .now) (a .ends .now)) (a .room .lent) (a .last) (a .id) (a .name) (a .s .now) (c .before .before .before .before .before .before .before .before .before .before .before .before .before .before .before .before .before .before .before .before .before .before .before .pre .1 .1) (c .before .before .before .before .before .before .before .before .before .before .before .before .before .before .before .before .put-title .ensures) (c .before .before .before .before .before .before .before .before .before .before .before .before .before .if1 .left) (c .before .before .before .before .before .before .before .before .before .before .before .put-byte .ensures) (c .before .before .before .before .before .before .list-body .ensures) (c .before .before .end-part .ensures)
 
 pub list-titled-spec : {M : Type 1} → statement M
 list-titled-spec =

@@ -3,6 +3,9 @@ use borrow.Author.Needs.{needs}
 use Rattle.list_module.proofs.module.module_under.Statement.{statement}
 use Rattle.list_module.proofs.module.module_under.Tie as tie
 
+opcode-rows-requires : tie.Need-opcode-rows-requires
+opcode-rows-requires c κs = search needs
+
 list-functions-requires : tie.Need-list-functions-requires
 list-functions-requires c κs = search needs
 
@@ -19,4 +22,5 @@ returns c =
 
 pub module-under-spec : {M : Type 1} → statement M
 module-under-spec =
-    tie.close (tie.spec list-functions-requires finish-requires same-length returns)
+    tie.close
+    (tie.spec opcode-rows-requires list-functions-requires finish-requires same-length returns)

@@ -19,7 +19,12 @@ slice-aggregate-list-flagged : tie.Need-slice-aggregate-list-flagged
 slice-aggregate-list-flagged c = search needs
 
 list-flagged-requires : tie.Need-list-flagged-requires
-list-flagged-requires c κs = let w = c .before .before .before .clear in let q = c .before .before .before .before .before .before .before .before .before .before .before .before .before .pre in let h : length (c .before .before .before .before .before .few-flags .result) ≡ 4096 = search needs in (zeroed (c .before .before .before .before .before .few-flags .result) _ (w .ensures), (omega (arith, h, cleared-size (c .before .before .before .before .before .few-flags .result) _ (w .ensures), c .before .before .before .before .before .before .if1 .taken), q .0, q .1, q .2))
+list-flagged-requires c κs =
+    let w = c .before .before .before .clear in
+    let q = c .before .before .before .before .before .before .before .before .before .before .before .before .before .pre in
+    let f = c .before .before .before .before .before .few-flags .result in
+    let h : length f ≡ 4096 = search needs in
+    (zeroed f _ (w .ensures), (q .0, (omega (arith, h, cleared-size f _ (w .ensures), c .before .before .before .before .before .before .if1 .taken), omega (arith, h, cleared-size f _ (w .ensures)), q .1 .1, q .1 .2)))
 
 same-length : tie.Need-same-length
 same-length c = search needs
@@ -40,7 +45,12 @@ slice-aggregate-list-flagged-2 : tie.Need-slice-aggregate-list-flagged-2
 slice-aggregate-list-flagged-2 c = search needs
 
 list-flagged-requires-2 : tie.Need-list-flagged-requires-2
-list-flagged-requires-2 c κs = let w = c .before .before .before .clear2 in let q = c .before .before .before .before .before .before .before .before .before .before .before .before .before .pre in let h : length (c .before .before .before .before .before .all-flags .result) ≡ 65536 = search needs in (zeroed (c .before .before .before .before .before .all-flags .result) _ (w .ensures), (omega (arith, h, cleared-size (c .before .before .before .before .before .all-flags .result) _ (w .ensures), q .0), q .0, q .1, q .2))
+list-flagged-requires-2 c κs =
+    let w = c .before .before .before .clear2 in
+    let q = c .before .before .before .before .before .before .before .before .before .before .before .before .before .pre in
+    let f = c .before .before .before .before .before .all-flags .result in
+    let h : length f ≡ 65536 = search needs in
+    (zeroed f _ (w .ensures), (q .0, (omega (arith, h, cleared-size f _ (w .ensures), q .1 .0), omega (arith, h, cleared-size f _ (w .ensures)), q .1 .1, q .1 .2)))
 
 same-length-2 : tie.Need-same-length-2
 same-length-2 c = search needs

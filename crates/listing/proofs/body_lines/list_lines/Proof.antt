@@ -1,4 +1,4 @@
-use mathlib.Core.Path.{refl}
+use mathlib.Core.Path.{refl, _∙_}
 use Prim.Native.Nat.{_-_}
 use native.Mathlib.Omega.{arith}
 use lib.ListN.{length}
@@ -6,20 +6,19 @@ use Rattle.lists.proofs.Writes.{_then_}
 use Rattle.spec_body.specs.Decode.{decodeBody}
 use Rattle.listing.specs.Parts.{recordsOf}
 use Rattle.listing.specs.Parts.Lined.{all, over}
-use Rattle.listing.proofs.LinesLoop.{Going, printing, given, records-are, start, inside, stopped, turn, finished, put-rises, fits-next, less-next}
+use Rattle.listing.proofs.LinesLoop.{Going, printing, given, records-are, start, inside, known, stopped, turn, finished, put-rises, fits-next, less-next}
 use borrow.Author.Needs.{needs}
 use Rattle.listing.proofs.body_lines.list_lines.Statement.{statement}
 use Rattle.listing.proofs.body_lines.list_lines.Tie as tie
 
 abbrev Inv-loop : tie.InvT-loop
-Inv-loop options sheet types ops last bytes ends s flags indent out₀ «from» k₀ at₀ out k at =
-    Going (printing options sheet types ops last bytes ends s flags indent) (recordsOf (decodeBody types last s)) out₀ «from» out k at
+Inv-loop options sheet types ops rows last bytes ends s flags indent out₀ from k₀ at₀ out k at = Going (printing options sheet types ops last bytes ends s flags indent) (recordsOf (decodeBody types last s)) out₀ «from» out k at
 
 abbrev μ-loop : tie.MeasureT-loop
-μ-loop options sheet types ops last bytes ends s flags indent out₀ «from» k₀ at₀ out k at = length s - at
+μ-loop options sheet types ops rows last bytes ends s flags indent out₀ from k₀ at₀ out k at = length s - at
 
 loop-holds : tie.Need-loop-holds Inv-loop μ-loop
-loop-holds c = start (records-are _ _ _ (c .before .before .before .before .before .before .before .pre .0)) (omega arith) (omega arith)
+loop-holds c = start (records-are _ _ _ (c .before .before .before .before .before .before .before .pre .0 .0)) (omega arith) (omega arith)
 
 shared-slice-read-op : tie.Need-shared-slice-read-op Inv-loop μ-loop
 shared-slice-read-op c = search needs
@@ -33,8 +32,11 @@ mul-row c = omega (arith, c .shared-slice-known7 .given (c .before .before .loop
 element-copy-out-row : tie.Need-element-copy-out-row Inv-loop μ-loop
 element-copy-out-row c = c .shared-slice-known7 .given (c .before .before .loop .at) .fits
 
-instruction-length-requires : tie.Need-instruction-length-requires Inv-loop μ-loop
-instruction-length-requires c κs = search needs
+array-read-byte-index : tie.Need-array-read-byte-index Inv-loop μ-loop
+array-read-byte-index c = search needs
+
+byte-index-requires : tie.Need-byte-index-requires Inv-loop μ-loop
+byte-index-requires c κs = search needs
 
 put-flagged-label-requires : tie.Need-put-flagged-label-requires Inv-loop μ-loop
 put-flagged-label-requires c κs = omega (arith, c .before .before .before .before .before .before .before .before .before .before .before .before .before .pre .1 .1 .0, c .before .before .before .before .loop-test .taken)
@@ -52,19 +54,35 @@ same-length : tie.Need-same-length Inv-loop μ-loop
 same-length c = search needs
 
 returns : tie.Need-returns Inv-loop μ-loop
-returns c = over _ (stopped (given _ (c .before .before .before .before .before .before .before .before .before .before .before .before .before .before .before .before .before .before .before .before .before .before .before .before .before .pre .1 .0) (c .before .before .before .before .before .before .before .before .before .before .before .before .before .before .before .before .before .before .before .before .before .before .before .before .before .pre .1 .1)) (c .before .before .before .before .before .before .before .before .before .before .before .before .before .before .before .before .before .loop .inv) (c .before .before .before .before .before .before .before .before .before .before .before .before .before .before .before .before .loop-test .taken) (record { o₁ = _; label-put = c .before .before .before .before .before .before .before .before .before .before .before .put-flagged-label .ensures; o₂ = _; b = _; indent-put = c .before .before .before .before .before .before .before .put-bytes .ensures; text-put = c .before .before .before .put-instruction .ensures }) (c .if1 .taken)) refl
+returns c =
+    let q = c .before .before .before .before .before .before .before .before .before .before .before .before .before .before .before .before .before .before .before .before .before .before .before .before .before .pre .1 in
+    over _ (stopped (given _ (q .0) (q .1)) (c .before .before .before .before .before .before .before .before .before .before .before .before .before .before .before .before .before .loop .inv) (c .before .before .before .before .before .before .before .before .before .before .before .before .before .before .before .before .loop-test .taken) (record { o₁ = _; label-put = c .before .before .before .before .before .before .before .before .before .before .before .put-flagged-label .ensures; o₂ = _; b = _; indent-put = c .before .before .before .before .before .before .before .put-bytes .ensures; text-put = c .before .before .before .put-instruction .ensures }) (c .if1 .taken)) refl
 
 put-byte-requires : tie.Need-put-byte-requires Inv-loop μ-loop
 put-byte-requires c κs = search needs
 
 add-at : tie.Need-add-at Inv-loop μ-loop
-add-at c = record { fits = fits-next _ _ _ (rw (c .before .before .before .before .before .before .before .before .before .before .before .before .before .before .before .before .before .instruction-length .ensures .0) (inside (c .before .before .before .before .before .before .before .before .before .before .before .before .before .before .before .before .before .before .before .before .before .loop .inv) (c .before .before .before .before .before .before .before .before .before .before .before .before .before .before .before .before .before .before .before .before .loop-test .taken))) (c .before .before .before .before .before .before .before .before .before .before .before .before .before .before .before .before .before .before .before .before .before .before .before .before .before .before .before .before .before .pre .1 .1 .1) }
+add-at c =
+    let l = c .before .before .before .before .before .before .before .before .before .before .before .before .before .before .before .before .before .before .before .before .before .loop in
+    let h = c .before .before .before .before .before .before .before .before .before .before .before .before .before .before .before .before .before .before .before .before .loop-test .taken in
+    let q = c .before .before .before .before .before .before .before .before .before .before .before .before .before .before .before .before .before .before .before .before .before .before .before .before .before .before .before .before .before .pre in
+    let z = c .before .before .before .before .before .before .before .before .before .before .before .before .before .before .before .before .before .byte-index .ensures ∙ q .0 .1 _ (c .before .before .before .before .before .before .before .before .before .before .before .before .before .before .before .before .before .before .before .shared-slice-known7 .given (l .at) .fits) (known (l .inv) h) in
+    record { fits = fits-next _ _ _ (rw z (inside (l .inv) h)) (q .1 .1 .1) }
 
 loop-less : tie.Need-loop-less Inv-loop μ-loop
-loop-less c = less-next _ _ _ (c .before .before .before .before .before .before .before .before .before .before .before .before .before .before .before .before .before .before .before .before .loop-test .taken) (rw (c .before .before .before .before .before .before .before .before .before .before .before .before .before .before .before .before .before .instruction-length .ensures .0) (omega arith))
+loop-less c =
+    let l = c .before .before .before .before .before .before .before .before .before .before .before .before .before .before .before .before .before .before .before .before .before .loop in
+    let h = c .before .before .before .before .before .before .before .before .before .before .before .before .before .before .before .before .before .before .before .before .loop-test .taken in
+    let z = c .before .before .before .before .before .before .before .before .before .before .before .before .before .before .before .before .before .byte-index .ensures ∙ c .before .before .before .before .before .before .before .before .before .before .before .before .before .before .before .before .before .before .before .before .before .before .before .before .before .before .before .before .before .pre .0 .1 _ (c .before .before .before .before .before .before .before .before .before .before .before .before .before .before .before .before .before .before .before .shared-slice-known7 .given (l .at) .fits) (known (l .inv) h) in
+    less-next _ _ _ h (rw z (omega arith))
 
 loop-again : tie.Need-loop-again Inv-loop μ-loop
-loop-again c = turn (given _ (c .before .before .before .before .before .before .before .before .before .before .before .before .before .before .before .before .before .before .before .before .before .before .before .before .before .before .before .before .before .pre .1 .0) (c .before .before .before .before .before .before .before .before .before .before .before .before .before .before .before .before .before .before .before .before .before .before .before .before .before .before .before .before .before .pre .1 .1)) (c .before .before .before .before .before .before .before .before .before .before .before .before .before .before .before .before .before .before .before .before .before .loop .inv) (c .before .before .before .before .before .before .before .before .before .before .before .before .before .before .before .before .before .before .before .before .loop-test .taken) (record { o₁ = _; label-put = c .before .before .before .before .before .before .before .before .before .before .before .before .before .before .before .put-flagged-label .ensures; o₂ = _; b = _; indent-put = c .before .before .before .before .before .before .before .before .before .before .before .put-bytes .ensures; text-put = c .before .before .before .before .before .before .before .put-instruction .ensures }) (c .before .before .before .before .if1 .left) (c .before .before .put-byte .ensures) (c .before .before .before .before .before .before .before .before .before .before .before .before .before .before .before .before .before .instruction-length .ensures .0)
+loop-again c =
+    let l = c .before .before .before .before .before .before .before .before .before .before .before .before .before .before .before .before .before .before .before .before .before .loop in
+    let h = c .before .before .before .before .before .before .before .before .before .before .before .before .before .before .before .before .before .before .before .before .loop-test .taken in
+    let q = c .before .before .before .before .before .before .before .before .before .before .before .before .before .before .before .before .before .before .before .before .before .before .before .before .before .before .before .before .before .pre in
+    let z = c .before .before .before .before .before .before .before .before .before .before .before .before .before .before .before .before .before .byte-index .ensures ∙ q .0 .1 _ (c .before .before .before .before .before .before .before .before .before .before .before .before .before .before .before .before .before .before .before .shared-slice-known7 .given (l .at) .fits) (known (l .inv) h) in
+    turn (given _ (q .1 .0) (q .1 .1)) (l .inv) h (record { o₁ = _; label-put = c .before .before .before .before .before .before .before .before .before .before .before .before .before .before .before .put-flagged-label .ensures; o₂ = _; b = _; indent-put = c .before .before .before .before .before .before .before .before .before .before .before .put-bytes .ensures; text-put = c .before .before .before .before .before .before .before .put-instruction .ensures }) (c .before .before .before .before .if1 .left) (c .before .before .put-byte .ensures) z
 
 same-length-2 : tie.Need-same-length-2 Inv-loop μ-loop
 same-length-2 c = search needs
@@ -83,7 +101,8 @@ list-lines-spec =
     cast-op
     mul-row
     element-copy-out-row
-    instruction-length-requires
+    array-read-byte-index
+    byte-index-requires
     put-flagged-label-requires
     put-bytes-requires
     put-instruction-requires

@@ -3,6 +3,9 @@ use borrow.Author.Needs.{needs}
 use Rattle.listing.proofs.list.list_under.Statement.{statement}
 use Rattle.listing.proofs.list.list_under.Tie as tie
 
+opcode-rows-requires : tie.Need-opcode-rows-requires
+opcode-rows-requires c κs = search needs
+
 slice-aggregate-list-body : tie.Need-slice-aggregate-list-body
 slice-aggregate-list-body c = search needs
 
@@ -23,4 +26,10 @@ returns c =
 pub list-under-spec : {M : Type 1} → statement M
 list-under-spec =
     tie.close
-    (tie.spec slice-aggregate-list-body list-body-requires finish-requires same-length returns)
+    (tie.spec
+    opcode-rows-requires
+    slice-aggregate-list-body
+    list-body-requires
+    finish-requires
+    same-length
+    returns)

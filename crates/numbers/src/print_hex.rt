@@ -5,6 +5,7 @@ ghost use lib.Dec.{ltb, leb};
 ghost use Rattle.lists.specs.Choice.{both};
 ghost use Rattle.lists.specs.Write.{Put};
 ghost use Rattle.spec_numbers.specs.Print.{digit, digits, padded, hexUpper, hexLower4, hexUpper4, hexUpper16};
+ghost use Rattle.numbers.specs.Digits.{fourHexDigits};
 use slices::write::put_byte;
 use slices::write::put_bytes;
 
@@ -53,18 +54,26 @@ pub fn put_hex(out: &mut [u8], at: usize, n: u64, letter: u8, least: usize) -> u
     put_byte(out, k, digit_char(n % 16, letter))
 }
 
+// The four digits of a number below 65536, written at once.
+fn put_four(out: &mut [u8], at: usize, n: u64, letter: u8) -> usize
+    requires { ⌜ (n < 65536) × (letter ≤ 97) ⌝ }
+    ensures { λ r. ⌜ Put (now (out .entry)) at (fourHexDigits letter n) (now (out .exit)) r ⌝ }
+{
+    let a = digit_char(n / 4096, letter);
+    let b = digit_char(n / 256 % 16, letter);
+    let c = digit_char(n / 16 % 16, letter);
+    let d = digit_char(n % 16, letter);
+    let four = [a, b, c, d];
+    put_bytes(out, at, &four)
+}
+
 // At least four digits, which are written at once where there are no more.
 fn put_hex4(out: &mut [u8], at: usize, n: u64, letter: u8) -> usize
     requires { ⌜ letter ≤ 97 ⌝ }
     ensures { λ r. ⌜ Put (now (out .entry)) at (padded 4 (digits 16 letter 16 n)) (now (out .exit)) r ⌝ }
 {
     if n < 65536 {
-        let a = digit_char(n / 4096, letter);
-        let b = digit_char(n / 256 % 16, letter);
-        let c = digit_char(n / 16 % 16, letter);
-        let d = digit_char(n % 16, letter);
-        let four = [a, b, c, d];
-        return put_bytes(out, at, &four);
+        return put_four(out, at, n, letter);
     }
     put_hex(out, at, n, letter, 4)
 }
@@ -83,11 +92,14 @@ pub fn put_hex_upper4(out: &mut [u8], at: usize, n: u64) -> usize
     put_hex4(out, at, n, 65)
 }
 
-// Writes `{:016X}`.
+// Writes `{:016X}`, by four digits at once.
 pub fn put_hex_upper16(out: &mut [u8], at: usize, n: u64) -> usize
     ensures { λ r. ⌜ Put (now (out .entry)) at (hexUpper16 n) (now (out .exit)) r ⌝ }
 {
-    put_hex(out, at, n, 65, 16)
+    let a = put_four(out, at, n / 0x1_0000_0000_0000, 65);
+    let b = put_four(out, a, n / 0x1_0000_0000 % 65536, 65);
+    let c = put_four(out, b, n / 65536 % 65536, 65);
+    put_four(out, c, n % 65536, 65)
 }
 
 // Writes `{:X}`.

@@ -1,0 +1,54 @@
+use borrow.Author.Needs.{needs}
+use mathlib.Core.Path.{sym}
+use native.Mathlib.Omega.{arith}
+use Rattle.lists.proofs.Writes.{_then_, same-piece}
+use Rattle.numbers.proofs.DecimalTurns.{decimal-last-eight}
+use Rattle.numbers.proofs.print_decimal.put_decimal.Statement.{statement}
+use Rattle.numbers.proofs.print_decimal.put_decimal.Tie as tie
+
+put-small-requires : tie.Need-put-small-requires
+put-small-requires c κs = search needs
+
+same-length : tie.Need-same-length
+same-length c = search needs
+
+returns : tie.Need-returns
+returns c = search needs
+
+put-middle-requires : tie.Need-put-middle-requires
+put-middle-requires c κs = search needs
+
+same-length-2 : tie.Need-same-length-2
+same-length-2 c = search needs
+
+returns-2 : tie.Need-returns-2
+returns-2 c = search needs
+
+put-large-requires : tie.Need-put-large-requires
+put-large-requires c κs = search needs
+
+put-eight-requires : tie.Need-put-eight-requires
+put-eight-requires c κs = search needs
+
+same-length-3 : tie.Need-same-length-3
+same-length-3 c = search needs
+
+returns-3 : tie.Need-returns-3
+returns-3 c =
+    let front = c .before .before .before .before .before .before in
+    same-piece (sym (decimal-last-eight _ (front .before .before .if2 .left) (omega arith))) (front .put-large .ensures then c .before .before .put-eight .ensures)
+
+pub put-decimal-spec : {M : Type 1} → statement M
+put-decimal-spec =
+    tie.close
+    (tie.spec
+    put-small-requires
+    same-length
+    returns
+    put-middle-requires
+    same-length-2
+    returns-2
+    put-large-requires
+    put-eight-requires
+    same-length-3
+    returns-3)

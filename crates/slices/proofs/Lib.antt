@@ -1,3 +1,4 @@
 pub mod SearchLaws
 pub mod CopyLaws
 pub mod ClassLaws
+pub mod SameLaws

@@ -1,8 +1,11 @@
 // Comparing bytes.
 ghost use mathlib.Core.Path.{_≡_};
-ghost use lib.ListN.{drop};
+ghost use Prim.Native.Nat.{_+_, _≤_, _<_};
+ghost use lib.ListN.{length, drop};
 ghost use Rattle.lists.specs.Choice.{within};
 ghost use Rattle.lists.specs.Scan.{same, opens};
+ghost use Rattle.slices.specs.Words.{twoAt, fourAt};
+use crate::widen::wide_byte;
 
 // Whether a byte is from lo to hi.
 pub fn is_within(lo: u8, hi: u8, b: u8) -> bool
@@ -11,12 +14,47 @@ pub fn is_within(lo: u8, hi: u8, b: u8) -> bool
     if lo <= b { b <= hi } else { false }
 }
 
+// Two and four bytes as one number. Each is the sum of two halves, which compiles to one load.
+fn two_at(s: &[u8], at: usize) -> u64
+    requires { ⌜ at + 2 ≤ length (now s) ⌝ }
+    ensures { λ r. ⌜ (r ≡ twoAt (now (s .entry)) at) × (r < 65536) ⌝ }
+{
+    wide_byte(s[at]) + wide_byte(s[at + 1]) * 256
+}
+
+fn four_at(s: &[u8], at: usize) -> u64
+    requires { ⌜ at + 4 ≤ length (now s) ⌝ }
+    ensures { λ r. ⌜ r ≡ fourAt (now (s .entry)) at ⌝ }
+{
+    two_at(s, at) + two_at(s, at + 2) * 65536
+}
+
+// Whether two slices of one length, four bytes or more, hold the same bytes. They are compared by four, and at last the last four, so
+// that none is left over.
+fn same_long(s: &[u8], t: &[u8]) -> bool
+    requires { ⌜ (4 ≤ length (now s)) × (length (now s) ≡ length (now t)) ⌝ }
+    ensures { λ r. ⌜ r ≡ same (now (s .entry)) (now (t .entry)) ⌝ }
+{
+    let mut i: usize = 0;
+    while 4 < s.len() - i {
+        if four_at(s, i) != four_at(t, i) {
+            return false;
+        }
+        i += 4;
+    }
+    let last = s.len() - 4;
+    four_at(s, last) == four_at(t, last)
+}
+
 // Whether two slices hold the same bytes. Lengths are compared first.
 pub fn same_bytes(s: &[u8], t: &[u8]) -> bool
     ensures { λ r. ⌜ r ≡ same (now (s .entry)) (now (t .entry)) ⌝ }
 {
     if s.len() != t.len() {
         return false;
+    }
+    if 4 <= s.len() {
+        return same_long(s, t);
     }
     let mut i: usize = 0;
     while i < s.len() {

@@ -47,12 +47,13 @@ fn count_bytes(out: &mut [u8], at: usize, s: &[u8]) -> usize
 pub fn put_bytes(out: &mut [u8], at: usize, s: &[u8]) -> usize
     ensures { λ r. ⌜ Put (now (out .entry)) at (now (s .entry)) (now (out .exit)) r ⌝ }
 {
-    if at < out.len() {
-        if s.len() <= out.len() - at {
-            return copy_bytes(out, at, s);
-        }
+    if out.len() < s.len() {
+        return count_bytes(out, at, s);
     }
-    count_bytes(out, at, s)
+    if out.len() - s.len() < at {
+        return count_bytes(out, at, s);
+    }
+    copy_bytes(out, at, s)
 }
 
 // Sets every byte to 0, as a refusal leaves a lent buffer.

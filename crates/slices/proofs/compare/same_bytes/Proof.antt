@@ -17,19 +17,25 @@ abbrev μ-loop : tie.MeasureT-loop
 returns : tie.Need-returns Inv-loop μ-loop
 returns c = sym (same-lengths _ _ (c .if1 .taken))
 
+same-long-requires : tie.Need-same-long-requires Inv-loop μ-loop
+same-long-requires c κs = search needs
+
+returns-2 : tie.Need-returns-2 Inv-loop μ-loop
+returns-2 c = search needs
+
 loop-holds : tie.Need-loop-holds Inv-loop μ-loop
 loop-holds c = search needs
 
-shared-slice-read-if2 : tie.Need-shared-slice-read-if2 Inv-loop μ-loop
-shared-slice-read-if2 c = search needs
+shared-slice-read-if3 : tie.Need-shared-slice-read-if3 Inv-loop μ-loop
+shared-slice-read-if3 c = search needs
 
-shared-slice-read-if2-2 : tie.Need-shared-slice-read-if2-2 Inv-loop μ-loop
-shared-slice-read-if2-2 c = search needs
+shared-slice-read-if3-2 : tie.Need-shared-slice-read-if3-2 Inv-loop μ-loop
+shared-slice-read-if3-2 c = search needs
 
-returns-2 : tie.Need-returns-2 Inv-loop μ-loop
-returns-2 c =
+returns-3 : tie.Need-returns-3 Inv-loop μ-loop
+returns-3 c =
     let l = c .before .before .before .before .loop in
-    sym (l .inv .1 ∙ same-stop _ _ (l .i) (omega arith) (omega arith) (c .if2 .taken))
+    sym (l .inv .1 ∙ same-stop _ _ (l .i) (omega arith) (omega arith) (c .if3 .taken))
 
 add-i : tie.Need-add-i Inv-loop μ-loop
 add-i c = search needs
@@ -40,10 +46,10 @@ loop-less c = search needs
 loop-again : tie.Need-loop-again Inv-loop μ-loop
 loop-again c =
     let l = c .before .before .before .before .loop in
-    (omega arith, l .inv .1 ∙ same-go _ _ (l .i) (omega arith) (omega arith) (c .if2 .left))
+    (omega arith, l .inv .1 ∙ same-go _ _ (l .i) (omega arith) (omega arith) (c .if3 .left))
 
-returns-3 : tie.Need-returns-3 Inv-loop μ-loop
-returns-3 c =
+returns-4 : tie.Need-returns-4 Inv-loop μ-loop
+returns-4 c =
     let l = c .before .loop in
     sym (l .inv .1 ∙ same-end _ _ (l .i) (omega arith) (omega arith))
 
@@ -54,11 +60,13 @@ same-bytes-spec =
     Inv-loop
     μ-loop
     returns
-    loop-holds
-    shared-slice-read-if2
-    shared-slice-read-if2-2
+    same-long-requires
     returns-2
+    loop-holds
+    shared-slice-read-if3
+    shared-slice-read-if3-2
+    returns-3
     add-i
     loop-less
     loop-again
-    returns-3)
+    returns-4)

@@ -16,7 +16,7 @@ fn two_bytes(s: &[u8], at: usize) -> u64
     wide_byte(s[at]) + wide_byte(s[at + 1]) * 256
 }
 
-fn four_bytes(s: &[u8], at: usize) -> u64
+pub fn four_bytes(s: &[u8], at: usize) -> u64
     requires { ⌜ at + 4 ≤ length (now s) ⌝ }
     ensures { λ r. ⌜ (r ≡ le (part (now (s .entry)) at 4)) × (r < 256 ^ 4) ⌝ }
 {

@@ -1,56 +1,39 @@
-use Rattle.hash_index.specs.Hash.{hashFrom}
-use Rattle.hash_index.proofs.HashLaws.{hash-go, hash-end}
-use Prim.Native.Nat.{_-_, _≤_, _<_}
-use mathlib.Core.Path.{_≡_, sym, _∙_}
-use lib.ListN.{length, drop}
+use mathlib.Core.Path.{_≡_, sym, ap, _∙_}
+use Prim.Native.Nat.{ℕ, _%_}
+use native.Mathlib.Nat.{mod-lt}
 use native.Mathlib.Omega.{arith}
+use lib.ListN.{length}
+use lib.Seq.{take-all}
+use Rattle.spec_numbers.specs.LittleEndian.{le}
+use Rattle.hash_index.specs.Hash.{hashWith}
+use Rattle.hash_index.proofs.HashLaws.{hash-short, hash-four, short-number}
 use borrow.Author.Needs.{needs}
 use Rattle.hash_index.proofs.hash.hash_of.Statement.{statement}
 use Rattle.hash_index.proofs.hash.hash_of.Tie as tie
 
-abbrev Inv-loop : tie.InvT-loop
-Inv-loop s h₀ i₀ h i = (i ≤ length s) × (h < 65536) × (hashFrom 0 s ≡ hashFrom h (drop i s))
+read-le-requires : tie.Need-read-le-requires
+read-le-requires c κs = search needs
 
-abbrev μ-loop : tie.MeasureT-loop
-μ-loop s h₀ i₀ h i = length s - i
+hash-with-requires : tie.Need-hash-with-requires
+hash-with-requires c κs =
+    let s = c .before .before .before .args .s .now in
+    let few = c .before .if1 .taken in
+    (omega arith, rw (c .read-le .ensures) (short-number (length s) s (λ i. c .before .before .shared-slice-known .given i .fits) few))
 
-loop-holds : tie.Need-loop-holds Inv-loop μ-loop
-loop-holds c = search needs
-
-shared-slice-read-hash-with : tie.Need-shared-slice-read-hash-with Inv-loop μ-loop
-shared-slice-read-hash-with c = search needs
-
-hash-with-requires : tie.Need-hash-with-requires Inv-loop μ-loop
-hash-with-requires c κs = search needs
-
-add-i : tie.Need-add-i Inv-loop μ-loop
-add-i c = search needs
-
-loop-less : tie.Need-loop-less Inv-loop μ-loop
-loop-less c = search needs
-
-loop-again : tie.Need-loop-again Inv-loop μ-loop
-loop-again c =
-    let l = c .before .before .before .loop in
-    let a = c .before .before .before .before .before .args in
-    (omega arith, omega arith, l .inv .2 ∙ hash-go (l .h) (a .s .now) (l .i) (c .before .before .loop-test .taken) ∙ rw (c .hash-with .ensures))
-
-returns : tie.Need-returns Inv-loop μ-loop
+returns : tie.Need-returns
 returns c =
-    let l = c .before .loop in
-    let a = c .before .before .before .args in
-    (sym (l .inv .2 ∙ hash-end (l .h) (a .s .now) (l .i) (c .loop-test .left)), omega arith)
+    let s = c .before .before .before .before .args .s .now in
+    let e : c .hash-with .result ≡ hashWith (length s) (le s) = c .hash-with .ensures .0 ∙ rw (c .before .read-le .ensures, take-all (length s) s (omega arith)) in
+    (ap (λ (h : ℕ). h % 65536) e ∙ sym (hash-short s (c .before .before .if1 .taken)), mod-lt _ (omega arith))
+
+hash-long-requires : tie.Need-hash-long-requires
+hash-long-requires c κs = search needs
+
+returns-2 : tie.Need-returns-2
+returns-2 c =
+    let s = c .before .before .before .args .s .now in
+    (ap (λ (h : ℕ). h % 65536) (c .hash-long .ensures) ∙ sym (hash-four s (c .before .if1 .left)), mod-lt _ (omega arith))
 
 pub hash-of-spec : {M : Type 1} → statement M
 hash-of-spec =
-    tie.close
-    (tie.spec
-    Inv-loop
-    μ-loop
-    loop-holds
-    shared-slice-read-hash-with
-    hash-with-requires
-    add-i
-    loop-less
-    loop-again
-    returns)
+    tie.close (tie.spec read-le-requires hash-with-requires returns hash-long-requires returns-2)

@@ -1,14 +1,14 @@
 -- What a text evaluates to, and what a pass over it leaves for the next. Assumes nothing.
 use mathlib.Core.Path.{_≡_}
 use mathlib.Core.List.{List}
-use Prim.Native.Nat.{ℕ, _+_, _≤_, _<_}
+use Prim.Native.Nat.{ℕ, _≤_}
 use lib.ListN.{length, take}
 use Rattle.answers.specs.Outcome.{Outcome}
 use Rattle.spec_inputs.specs.Context.{Context, contextFrom}
 use Rattle.spec_hasm.specs.Assemble.{Assembled, codesOf, unlessBadName, labelsFrom, assembleText, assembleEntries}
 use Rattle.spec_hasm.specs.Operation.{assembleOutcome}
 use Rattle.hasm_labels.specs.Slots.{labelsIn}
-use Rattle.strings.specs.Keys.{textBuckets, TextsIndexed}
+use Rattle.strings.specs.Keys.{textSpace, TextsIndexed}
 
 -- what a text evaluates to
 abbrev pub textOutcome : Context → List ℕ → Outcome
@@ -24,10 +24,9 @@ pub record Named (e : Context) (text : List ℕ) (count : ℕ) (slots : List (Li
 abbrev pub NamesGood : List ℕ → List (List ℕ) → List (List ℕ) → List ℕ → ℕ → List (List ℕ) → Type 0
 NamesGood sheet types ops text count slots = (bytes ends : List ℕ) → Named (contextFrom sheet types ops bytes ends) text count slots
 
--- space for the texts' index: some buckets, and behind them a next for each of the table's ids
+-- space for the texts' index
 pub record IdSpace (ids ends : List ℕ) : Type 0 where
-  pub some : 0 < textBuckets ids
-  pub each : textBuckets ids + length ends ≤ length ids
+  pub each : textSpace (length ends) ≤ length ids
   pub few : length ends ≤ 65536
 
 -- that space behind the passes: it holds the index, or is as it was, where a pass before the writing refused the text

@@ -12,17 +12,23 @@ use hasm_labels::label_entry::Slot;
 use operation::inputs::Inputs;
 use slices::clearing::clear_labels;
 use slices::write::clear;
+use strings::text_index::ALL_INDEX;
+use strings::text_index::FEW_INDEX;
+use strings::text_index::FEW_STRINGS;
+use strings::text_index::SOME_INDEX;
+use strings::text_index::SOME_STRINGS;
 
-// A table of few strings has a small index, as clearing a large one takes longer than a short text.
-const FEW_STRINGS: usize = 256;
-
-// Space for the index of the texts, twice as many words as there may be strings. No contract, since the types say the lengths.
-fn few_ids() -> [u32; 2 * FEW_STRINGS] {
-    [0; 2 * FEW_STRINGS]
+// Space for the index of the texts. No contract, since the types say the lengths.
+fn few_ids() -> [u32; FEW_INDEX] {
+    [0; FEW_INDEX]
 }
 
-fn all_ids() -> [u32; 2 * limits::STRING_LIMIT] {
-    [0; 2 * limits::STRING_LIMIT]
+fn some_ids() -> [u32; SOME_INDEX] {
+    [0; SOME_INDEX]
+}
+
+fn all_ids() -> [u32; ALL_INDEX] {
+    [0; ALL_INDEX]
 }
 
 // Assembles a text under a sheet given as text and a string table. A label entry is lent for each label that is taken.
@@ -54,6 +60,20 @@ pub fn assemble(
         let mut few = few_ids();
         return crate::passes::assemble_under(
             &mut few,
+            sheet,
+            &types,
+            &ops,
+            bytes,
+            ends,
+            text,
+            out,
+            labels,
+        );
+    }
+    if ends.len() <= SOME_STRINGS {
+        let mut some = some_ids();
+        return crate::passes::assemble_under(
+            &mut some,
             sheet,
             &types,
             &ops,

@@ -1,13 +1,13 @@
 // Carrying a body to another sheet and string table.
 ghost use mathlib.Core.Path.{_≡_};
 ghost use mathlib.Core.List.{[], _∷_};
-ghost use Prim.Native.Nat.{ℕ, _+_, _<_, _≤_};
+ghost use Prim.Native.Nat.{ℕ, _<_, _≤_};
 ghost use lib.ListN.{length, getD};
 ghost use Rattle.limits.specs.Limits.{bodyLimit, stringLimit};
 ghost use Rattle.answers.specs.Report.{zeros, cleared};
 ghost use Rattle.answers.specs.Outcome.{Ended};
 ghost use Rattle.spec_inputs.specs.Context.{contextFrom};
-ghost use Rattle.strings.specs.Keys.{textBuckets, TextsIndexed};
+ghost use Rattle.strings.specs.Keys.{textSpace, TextsIndexed};
 ghost use Rattle.spec_carry.specs.Carry as definition;
 ghost use Rattle.spec_carry.specs.Carry.{carryUnder};
 ghost use Rattle.carry.specs.Answers.{carryReport};
@@ -16,7 +16,6 @@ ghost use Rattle.carry.specs.Ready.{ZerosBehind, Ready};
 ghost use Rattle.carry.specs.Ids.{Translated};
 ghost use Rattle.carry.specs.Prepared.{Between, Prepared};
 use crate::answer::CarryAnswer;
-use crate::ids::FEW_STRINGS;
 use crate::inputs::Inputs;
 use crate::inputs::Sheets;
 use crate::instructions::Bytes;
@@ -24,6 +23,8 @@ use crate::places::Marked;
 use answers::refusal::Refusal;
 use slices::clearing::clear_labels;
 use slices::write::clear;
+use strings::text_index::FEW_STRINGS;
+use strings::text_index::SOME_STRINGS;
 
 // Carries a body whose places are marked, then measures the result. `n` is the number of its instructions.
 fn carry_marked(
@@ -121,6 +122,10 @@ fn few_ids() -> [u32; FEW_STRINGS] {
     [0; FEW_STRINGS]
 }
 
+fn some_ids() -> [u32; SOME_STRINGS] {
+    [0; SOME_STRINGS]
+}
+
 fn all_ids() -> [u32; limits::STRING_LIMIT] {
     [0; limits::STRING_LIMIT]
 }
@@ -181,6 +186,23 @@ fn carry_between(
             s,
             lent,
             &mut few[0..n],
+            out,
+        );
+    }
+    if n <= SOME_STRINGS {
+        let mut some = some_ids();
+        return carry_translated(
+            types,
+            types2,
+            rows,
+            last,
+            bytes,
+            ends,
+            bytes2,
+            ends2,
+            s,
+            lent,
+            &mut some[0..n],
             out,
         );
     }
@@ -258,14 +280,13 @@ pub fn carry_within(
     index: &mut [u32],
     out: &mut [u8],
 ) -> CarryAnswer
-    requires { ⌜ (length (now s) ≤ bodyLimit) × (length (now ends2) ≤ stringLimit) × (length (now ids) ≡ length (now ends)) × (0 < textBuckets (now index)) × (textBuckets (now index) + length (now ends2) ≤ length (now index)) ⌝ }
+    requires { ⌜ (length (now s) ≤ bodyLimit) × (length (now ends2) ≤ stringLimit) × (length (now ids) ≡ length (now ends)) × (textSpace (length (now ends2)) ≤ length (now index)) ⌝ }
     requires { ⌜ ((op : ℕ) → ZerosBehind (getD (now types) op [])) × ((op : ℕ) → ZerosBehind (getD (now types2) op [])) ⌝ }
     ensures { λ r. ⌜ Ended (carryUnder (contextFrom (now (sheet .entry)) (now (types .entry)) (now (ops .entry)) (now (bytes .entry)) (now (ends .entry))) (contextFrom (now (sheet2 .entry)) (now (types2 .entry)) (now (ops2 .entry)) (now (bytes2 .entry)) (now (ends2 .entry))) last (now (s .entry))) (now (out .entry)) (lent ∷ []) (now (out .exit)) (carryReport r) ⌝ }
     ensures { λ _. ⌜ Translated (now (bytes .entry)) (now (ends .entry)) (now (bytes2 .entry)) (now (ends2 .entry)) (now (ids .exit)) ⌝ }
     ensures { λ _. ⌜ TextsIndexed (now (bytes2 .entry)) (now (ends2 .entry)) (now (index .exit)) ⌝ }
 {
-    strings::text_index::index_texts(bytes2, ends2, index);
-    crate::ids::translate(bytes, ends, bytes2, ends2, index, ids);
+    crate::ids::translate_in(bytes, ends, bytes2, ends2, index, ids);
     let rows = crate::opcodes::rows_between(sheet, types, ops, last, sheet2, types2, ops2);
     carry_body(types, types2, &rows, last, ids, s, lent, out)
 }

@@ -6,9 +6,14 @@ ghost use lib.ListN.{length};
 ghost use Rattle.limits.specs.Limits.{stringLimit};
 ghost use Rattle.lists.specs.Found as search;
 ghost use Rattle.slices.specs.Answers.{foundOf};
-ghost use Rattle.strings.specs.Keys.{TextsIndexed};
+ghost use Rattle.strings.specs.Keys.{textSpace, TextsIndexed};
 ghost use Rattle.carry.specs.Ids.{FoundBelow, idMark, Translated};
 use slices::search::Found;
+use strings::text_index::ALL_INDEX;
+use strings::text_index::FEW_INDEX;
+use strings::text_index::FEW_STRINGS;
+use strings::text_index::SOME_INDEX;
+use strings::text_index::SOME_STRINGS;
 
 // What stands for an id whose text is found so.
 fn mark_of(found: Found) -> u32
@@ -22,7 +27,7 @@ fn mark_of(found: Found) -> u32
 }
 
 // Sets what stands for each id of the first table.
-pub(crate) fn translate(
+fn translate(
     bytes: &[u8],
     ends: &[u32],
     bytes2: &[u8],
@@ -42,20 +47,37 @@ pub(crate) fn translate(
     }
 }
 
-// A table of few strings has a small index, as clearing a large one takes longer than a short body.
-pub(crate) const FEW_STRINGS: usize = 256;
-
-// Space for the index of the second table's texts, twice as many words as there may be strings. No contract, since the types say
-// the lengths.
-fn few_index() -> [u32; 2 * FEW_STRINGS] {
-    [0; 2 * FEW_STRINGS]
+// Space for the index of the second table's texts. No contract, since the types say the lengths.
+fn few_index() -> [u32; FEW_INDEX] {
+    [0; FEW_INDEX]
 }
 
-fn all_index() -> [u32; 2 * limits::STRING_LIMIT] {
-    [0; 2 * limits::STRING_LIMIT]
+fn some_index() -> [u32; SOME_INDEX] {
+    [0; SOME_INDEX]
 }
 
-// Sets what stands for each id of the first table, with an index of the second that is made here.
+fn all_index() -> [u32; ALL_INDEX] {
+    [0; ALL_INDEX]
+}
+
+// Sets what stands for each id of the first table, with space for an index of the second.
+pub(crate) fn translate_in(
+    bytes: &[u8],
+    ends: &[u32],
+    bytes2: &[u8],
+    ends2: &[u32],
+    index: &mut [u32],
+    ids: &mut [u32],
+)
+    requires { ⌜ (length (now ids) ≡ length (now ends)) × (length (now ends2) ≤ stringLimit) × (textSpace (length (now ends2)) ≤ length (now index)) ⌝ }
+    ensures { λ _. ⌜ Translated (now (bytes .entry)) (now (ends .entry)) (now (bytes2 .entry)) (now (ends2 .entry)) (now (ids .exit)) ⌝ }
+    ensures { λ _. ⌜ TextsIndexed (now (bytes2 .entry)) (now (ends2 .entry)) (now (index .exit)) ⌝ }
+{
+    strings::text_index::index_texts(bytes2, ends2, index);
+    translate(bytes, ends, bytes2, ends2, index, ids);
+}
+
+// The same with space that is made here, little of it for a table of few strings.
 pub(crate) fn translate_all(
     bytes: &[u8],
     ends: &[u32],
@@ -68,11 +90,14 @@ pub(crate) fn translate_all(
 {
     if ends2.len() <= FEW_STRINGS {
         let mut few = few_index();
-        strings::text_index::index_texts(bytes2, ends2, &mut few);
-        translate(bytes, ends, bytes2, ends2, &few, ids);
+        translate_in(bytes, ends, bytes2, ends2, &mut few, ids);
+        return;
+    }
+    if ends2.len() <= SOME_STRINGS {
+        let mut some = some_index();
+        translate_in(bytes, ends, bytes2, ends2, &mut some, ids);
         return;
     }
     let mut index = all_index();
-    strings::text_index::index_texts(bytes2, ends2, &mut index);
-    translate(bytes, ends, bytes2, ends2, &index, ids);
+    translate_in(bytes, ends, bytes2, ends2, &mut index, ids);
 }

@@ -19,15 +19,16 @@ use assemble::answer::AssembleAnswer;
 use hasm_labels::label_entry::Slot;
 use operation::inputs::Inputs;
 use slices::write::clear;
+use strings::text_index::SOME_INDEX;
 
 // The 4,096 label entries that the program lends. No contract, since the type says the length.
 fn label_space() -> [Slot; limits::JOB_LABELS] {
     [[0; 3]; limits::JOB_LABELS]
 }
 
-// Space for the index of a job's strings, twice as many words as there may be strings.
-fn id_space() -> [u32; 2 * limits::JOB_STRING_LIMIT] {
-    [0; 2 * limits::JOB_STRING_LIMIT]
+// Space for the index of a job's strings, of which there are no more than SOME_STRINGS.
+fn id_space() -> [u32; SOME_INDEX] {
+    [0; SOME_INDEX]
 }
 
 // Assembles the text of a job whose lines are in order: 17, then as assembling a text, which asks for no largest opcode.

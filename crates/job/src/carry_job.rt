@@ -1,7 +1,7 @@
 // A job that carries a body to another sheet and string table: the result is printed in hex.
 ghost use mathlib.Core.Path.{_≡_};
 ghost use mathlib.Core.List.{List, [], _∷_};
-ghost use Prim.Native.Nat.{ℕ, _+_, _<_, _≤_};
+ghost use Prim.Native.Nat.{ℕ, _≤_};
 ghost use lib.ListN.{length, getD};
 ghost use Rattle.limits.specs.Limits.{jobLimit, bodyLimit, jobStringLimit, jobLabels};
 ghost use Rattle.answers.specs.Outcome.{Ended};
@@ -10,7 +10,7 @@ ghost use Rattle.spec_sheet.specs.Sheet.{typeRows, infoRows, largest};
 ghost use Rattle.spec_job.specs.Job.{withBody, withSecond};
 ghost use Rattle.spec_job.specs.Job.JobRead.{carryJob};
 ghost use Rattle.spec_job.specs.Printed.{carryUnder, bodyText, printedOf, printedJob};
-ghost use Rattle.strings.specs.Keys.{textBuckets};
+ghost use Rattle.strings.specs.Keys.{textSpace};
 ghost use Rattle.carry.specs.Answers.{carryReport};
 ghost use Rattle.carry.specs.Ready.{ZerosBehind};
 ghost use Rattle.job.specs.Prints.{Prints};
@@ -22,6 +22,9 @@ use answers::refusal::Refusal;
 use carry::answer::CarryAnswer;
 use carry::inputs::Inputs;
 use slices::write::clear;
+use strings::text_index::FEW_INDEX;
+use strings::text_index::FEW_STRINGS;
+use strings::text_index::SOME_INDEX;
 
 // Carries the body of a job whose lines are in order: 17 of both tables, then as carrying a body. The names of both sheets are
 // parts of the job. The program lends 4,096 label entries; `ids` and `index` are work space.
@@ -42,7 +45,7 @@ fn carry_inputs(
     out: &mut [u8],
 ) -> CarryAnswer
     requires { ⌜ (length (now body) ≤ bodyLimit) × (length (now ends2) ≤ jobStringLimit) ⌝ }
-    requires { ⌜ (length (now ids) ≡ length (now ends)) × (0 < textBuckets (now index)) × (textBuckets (now index) + length (now ends2) ≤ length (now index)) ⌝ }
+    requires { ⌜ (length (now ids) ≡ length (now ends)) × (textSpace (length (now ends2)) ≤ length (now index)) ⌝ }
     requires { ⌜ ((op : ℕ) → ZerosBehind (getD (now types) op [])) × ((op : ℕ) → ZerosBehind (getD (now types2) op [])) ⌝ }
     ensures { λ r. ⌜ ((os os₂ : List Op) → now (types .entry) ≡ typeRows os → now (ops .entry) ≡ infoRows os → last ≡ largest os → now (types2 .entry) ≡ typeRows os₂ → now (ops2 .entry) ≡ infoRows os₂ → Ended (carryUnder (now (job .entry)) (record { opcodes = os; bytes = now (bytes .entry); ends = now (ends .entry) }) (record { opcodes = os₂; bytes = now (bytes2 .entry); ends = now (ends2 .entry) }) (now (body .entry))) (now (out .entry)) (jobLabels ∷ []) (now (out .exit)) (carryReport r)) ⌝ }
     ensures { λ r. ⌜ carryReport r .length ≤ length (now (out .entry)) ⌝ }
@@ -90,7 +93,7 @@ fn print_carried(
     text: &mut [u8],
 ) -> usize
     requires { ⌜ (length (now body) ≤ bodyLimit) × (length (now ends2) ≤ jobStringLimit) ⌝ }
-    requires { ⌜ (length (now ids) ≡ length (now ends)) × (0 < textBuckets (now index)) × (textBuckets (now index) + length (now ends2) ≤ length (now index)) ⌝ }
+    requires { ⌜ (length (now ids) ≡ length (now ends)) × (textSpace (length (now ends2)) ≤ length (now index)) ⌝ }
     requires { ⌜ ((op : ℕ) → ZerosBehind (getD (now types) op [])) × ((op : ℕ) → ZerosBehind (getD (now types2) op [])) ⌝ }
     ensures { λ r. ⌜ ((os os₂ : List Op) → now (types .entry) ≡ typeRows os → now (ops .entry) ≡ infoRows os → last ≡ largest os → now (types2 .entry) ≡ typeRows os₂ → now (ops2 .entry) ≡ infoRows os₂ → Prints (printedOf bodyText (carryUnder (now (job .entry)) (record { opcodes = os; bytes = now (bytes .entry); ends = now (ends .entry) }) (record { opcodes = os₂; bytes = now (bytes2 .entry); ends = now (ends2 .entry) }) (now (body .entry)))) (now (text .entry)) (now (text .exit)) r) ⌝ }
 {
@@ -114,25 +117,21 @@ fn print_carried(
     crate::printed::put_answer(true, carry::answer::carry_numbers(a), &out, text)
 }
 
-// The most strings of both tables that are few.
-const FEW_STRINGS: usize = 256;
-
-// Space for the ids of the first table, and for an index of the second, twice as many words as there may be strings. No contract,
-// since the types say the lengths.
+// Space for the ids of the first table, and for an index of the second. No contract, since the types say the lengths.
 fn few_ids() -> [u32; FEW_STRINGS] {
     [0; FEW_STRINGS]
 }
 
-fn few_index() -> [u32; 2 * FEW_STRINGS] {
-    [0; 2 * FEW_STRINGS]
+fn few_index() -> [u32; FEW_INDEX] {
+    [0; FEW_INDEX]
 }
 
 fn all_ids() -> [u32; limits::JOB_STRING_LIMIT] {
     [0; limits::JOB_STRING_LIMIT]
 }
 
-fn all_index() -> [u32; 2 * limits::JOB_STRING_LIMIT] {
-    [0; 2 * limits::JOB_STRING_LIMIT]
+fn all_index() -> [u32; SOME_INDEX] {
+    [0; SOME_INDEX]
 }
 
 // The same with space that is made here, little of it where both tables have few strings together. Two calls keep the arrays of

@@ -23,12 +23,15 @@ fn bucket_of(name: &[u8]) -> usize
     hash_index::hash::hash_of(name) % NAME_BUCKETS
 }
 
-// The bucket of the name in a row.
+// The bucket of the name in a row. A gap has an empty name, whose hash is 0.
 fn row_bucket(sheet: &[u8], row: [usize; 4]) -> usize
     ensures { λ r. ⌜ (r ≡ bucketOf (nameIn (now (sheet .entry)) row)) × (r < nameBuckets) ⌝ }
 {
     let start = row[crate::rows::NAME_START];
     let size = row[crate::rows::NAME_SIZE];
+    if size == 0 {
+        return 0;
+    }
     let name = slices::part::part_of(sheet, start, size);
     bucket_of(name)
 }

@@ -1,13 +1,28 @@
-// The index is one lent slice: its first half has a head for each bucket, the second a next for each id. It answers what
-// `lookup` of the table answers, however long it is.
+// The index is one lent slice: a head for each bucket, and behind them a next for each id. It answers what `lookup` of the table
+// answers.
 ghost use mathlib.Core.Path.{_≡_};
-ghost use Prim.Native.Nat.{_+_, _≤_, _<_};
+ghost use Prim.Native.Nat.{_≤_, _<_};
 ghost use lib.ListN.{length};
 ghost use Rattle.limits.specs.Limits.{stringLimit};
 ghost use Rattle.slices.specs.Answers.{foundOf};
 ghost use Rattle.spec_strings.specs.Table.{textOf, lookup, entryStart};
-ghost use Rattle.strings.specs.Keys.{bucketOf, textBuckets, TextsIndexed};
+ghost use Rattle.strings.specs.Keys.{bucketOf, textBuckets, textSpace, TextsIndexed};
 use slices::search::Found;
+
+const MOST_BUCKETS: usize = 16384;
+
+// How many strings a small table has, and a middling one. Space for the index of as many as may be takes longer to clear than a short
+// text or body takes.
+pub const FEW_STRINGS: usize = 256;
+
+pub const SOME_STRINGS: usize = 4096;
+
+// How long the index of so many texts is, and of as many as may be.
+pub const FEW_INDEX: usize = 2 * FEW_STRINGS + 1;
+
+pub const SOME_INDEX: usize = 2 * SOME_STRINGS + 1;
+
+pub const ALL_INDEX: usize = MOST_BUCKETS + limits::STRING_LIMIT;
 
 // Where the text of an id starts.
 fn start_of(ends: &[u32], id: usize) -> usize
@@ -30,20 +45,31 @@ pub fn text_of<'a>(bytes: &'a [u8], ends: &[u32], id: usize) -> &'a [u8]
     crate::table::entry_part(bytes, start, end)
 }
 
-// The bucket of a text among m.
+// How many buckets an index of n texts has.
+fn buckets_of(n: usize) -> usize
+    ensures { λ r. ⌜ r ≡ textBuckets n ⌝ }
+{
+    if n < MOST_BUCKETS {
+        n + 1
+    } else {
+        MOST_BUCKETS
+    }
+}
+
+// The bucket of a text among m. The hash is scaled to them, since a division by m takes longer.
 fn bucket_of(text: &[u8], m: usize) -> usize
-    requires { ⌜ 0 < m ⌝ }
+    requires { ⌜ (0 < m) × (m ≤ 16384) ⌝ }
     ensures { λ r. ⌜ (r ≡ bucketOf m (now (text .entry))) × (r < m) ⌝ }
 {
-    hash_index::hash::hash_of(text) % m
+    hash_index::hash::hash_of(text) * m / 65536
 }
 
 // Puts the texts of all ids into chains, from the last id down, so that the first of equal texts is found.
 pub fn index_texts(bytes: &[u8], ends: &[u32], index: &mut [u32])
-    requires { ⌜ (0 < textBuckets (now index)) × (length (now ends) ≤ stringLimit) × (textBuckets (now index) + length (now ends) ≤ length (now index)) ⌝ }
+    requires { ⌜ (length (now ends) ≤ stringLimit) × (textSpace (length (now ends)) ≤ length (now index)) ⌝ }
     ensures { λ _. ⌜ TextsIndexed (now (bytes .entry)) (now (ends .entry)) (now (index .exit)) ⌝ }
 {
-    let m = index.len() / 2;
+    let m = buckets_of(ends.len());
     hash_index::chain::empty_heads(index, m, ends.len());
     let mut left = ends.len();
     while 0 < left {
@@ -60,7 +86,7 @@ pub fn lookup_indexed(text: &[u8], bytes: &[u8], ends: &[u32], index: &[u32]) ->
     requires { ⌜ TextsIndexed (now bytes) (now ends) (now index) ⌝ }
     ensures { λ r. ⌜ r ≡ foundOf (lookup (now (text .entry)) (now (bytes .entry)) (now (ends .entry))) ⌝ }
 {
-    let m = index.len() / 2;
+    let m = buckets_of(ends.len());
     let h = bucket_of(text, m);
     let mut id = hash_index::chain::index_at(index, h);
     while id < ends.len() {

@@ -57,7 +57,7 @@ slice-aggregate-assemble-under : tie.Need-slice-aggregate-assemble-under
 slice-aggregate-assemble-under c = search needs
 
 assemble-under-requires : tie.Need-assemble-under-requires
-assemble-under-requires c κs = (record { some = search needs; each = search needs; few = few-strings (rw (c .before .before .before .before .before .before .before .enum-told .given .1) at (c .before .before .before .before .before .before .before .before .before .read-inputs .ensures)) }, c .before .before .before .before .before .before .before .before .before .before .before .before .if1 .left)
+assemble-under-requires c κs = (record { each = search needs; few = few-strings (rw (c .before .before .before .before .before .before .before .enum-told .given .1) at (c .before .before .before .before .before .before .before .before .before .read-inputs .ensures)) }, c .before .before .before .before .before .before .before .before .before .before .before .before .if1 .left)
 
 same-length-5 : tie.Need-same-length-5
 same-length-5 c = search needs
@@ -71,16 +71,16 @@ returns-3 c =
     let under = c .before .before .before .before .assemble-under .ensures in
     (read-text (a .sheet .now) (a .bytes .now) (a .ends .now) (a .text .now) (c .before .before .before .before .before .before .before .before .before .before .before .before .before .before .before .before .before .if1 .left) (rw (c .before .before .before .before .before .before .before .before .before .before .before .before .enum-told .given .1) at (c .before .before .before .before .before .before .before .before .before .before .before .before .before .before .read-inputs .ensures)) (under .0), under .1 .0)
 
-all-ids-requires : tie.Need-all-ids-requires
-all-ids-requires c κs = search needs
+some-ids-requires : tie.Need-some-ids-requires
+some-ids-requires c κs = search needs
 
 slice-aggregate-assemble-under-2 : tie.Need-slice-aggregate-assemble-under-2
 slice-aggregate-assemble-under-2 c = search needs
 
 assemble-under-requires-2 : tie.Need-assemble-under-requires-2
 assemble-under-requires-2 c κs =
-    let f = few-strings (rw (c .before .before .before .before .before .before .before .enum-told .given .1) at (c .before .before .before .before .before .before .before .before .before .read-inputs .ensures)) in
-    (record { some = search needs; each = search needs; few = f }, c .before .before .before .before .before .before .before .before .before .before .before .before .if1 .left)
+    let f = few-strings (rw (c .before .before .before .before .before .before .before .before .enum-told .given .1) at (c .before .before .before .before .before .before .before .before .before .before .read-inputs .ensures)) in
+    (record { each = search needs; few = f }, c .before .before .before .before .before .before .before .before .before .before .before .before .before .if1 .left)
 
 same-length-7 : tie.Need-same-length-7
 same-length-7 c = search needs
@@ -90,9 +90,32 @@ same-length-8 c = search needs
 
 returns-4 : tie.Need-returns-4
 returns-4 c =
-    let a = c .before .before .before .before .before .before .before .before .before .before .before .before .before .before .before .before .before .before .before .before .before .before .before .args in
+    let a = c .before .before .before .before .before .before .before .before .before .before .before .before .before .before .before .before .before .before .before .before .before .before .before .before .args in
     let under = c .before .before .before .before .assemble-under2 .ensures in
-    (read-text (a .sheet .now) (a .bytes .now) (a .ends .now) (a .text .now) (c .before .before .before .before .before .before .before .before .before .before .before .before .before .before .before .before .before .if1 .left) (rw (c .before .before .before .before .before .before .before .before .before .before .before .before .enum-told .given .1) at (c .before .before .before .before .before .before .before .before .before .before .before .before .before .before .read-inputs .ensures)) (under .0), under .1 .0)
+    (read-text (a .sheet .now) (a .bytes .now) (a .ends .now) (a .text .now) (c .before .before .before .before .before .before .before .before .before .before .before .before .before .before .before .before .before .before .if1 .left) (rw (c .before .before .before .before .before .before .before .before .before .before .before .before .before .enum-told .given .1) at (c .before .before .before .before .before .before .before .before .before .before .before .before .before .before .before .read-inputs .ensures)) (under .0), under .1 .0)
+
+all-ids-requires : tie.Need-all-ids-requires
+all-ids-requires c κs = search needs
+
+slice-aggregate-assemble-under-3 : tie.Need-slice-aggregate-assemble-under-3
+slice-aggregate-assemble-under-3 c = search needs
+
+assemble-under-requires-3 : tie.Need-assemble-under-requires-3
+assemble-under-requires-3 c κs =
+    let f = few-strings (rw (c .before .before .before .before .before .before .before .before .enum-told .given .1) at (c .before .before .before .before .before .before .before .before .before .before .read-inputs .ensures)) in
+    (record { each = search needs; few = f }, c .before .before .before .before .before .before .before .before .before .before .before .before .before .if1 .left)
+
+same-length-9 : tie.Need-same-length-9
+same-length-9 c = search needs
+
+same-length-10 : tie.Need-same-length-10
+same-length-10 c = search needs
+
+returns-5 : tie.Need-returns-5
+returns-5 c =
+    let a = c .before .before .before .before .before .before .before .before .before .before .before .before .before .before .before .before .before .before .before .before .before .before .before .before .args in
+    let under = c .before .before .before .before .assemble-under3 .ensures in
+    (read-text (a .sheet .now) (a .bytes .now) (a .ends .now) (a .text .now) (c .before .before .before .before .before .before .before .before .before .before .before .before .before .before .before .before .before .before .if1 .left) (rw (c .before .before .before .before .before .before .before .before .before .before .before .before .before .enum-told .given .1) at (c .before .before .before .before .before .before .before .before .before .before .before .before .before .before .before .read-inputs .ensures)) (under .0), under .1 .0)
 
 pub assemble-spec : {M : Type 1} → statement M
 assemble-spec =
@@ -117,9 +140,15 @@ assemble-spec =
     same-length-5
     same-length-6
     returns-3
-    all-ids-requires
+    some-ids-requires
     slice-aggregate-assemble-under-2
     assemble-under-requires-2
     same-length-7
     same-length-8
-    returns-4)
+    returns-4
+    all-ids-requires
+    slice-aggregate-assemble-under-3
+    assemble-under-requires-3
+    same-length-9
+    same-length-10
+    returns-5)

@@ -9,7 +9,7 @@ use Rattle.assemble.proofs.passes.put_indexed.Statement.{statement}
 use Rattle.assemble.proofs.passes.put_indexed.Tie as tie
 
 index-texts-requires : tie.Need-index-texts-requires
-index-texts-requires c κs = let p = c .before .before .before .before .before .before .before .before .pre .0 .0 in (p .some, p .few, p .each)
+index-texts-requires c κs = let p = c .before .before .before .before .before .before .before .before .pre .0 .0 in (p .few, p .each)
 
 held-labels-requires : tie.Need-held-labels-requires
 held-labels-requires c κs = search needs

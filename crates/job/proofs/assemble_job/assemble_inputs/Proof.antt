@@ -27,7 +27,7 @@ slice-aggregate-assemble-under-2 : tie.Need-slice-aggregate-assemble-under-2
 slice-aggregate-assemble-under-2 c = search needs
 
 assemble-under-requires : tie.Need-assemble-under-requires
-assemble-under-requires c κs = (record { some = search needs; each = search needs; few = search needs }, search needs)
+assemble-under-requires c κs = (record { each = search needs; few = search needs }, search needs)
 
 enum-known-i : tie.Need-enum-known-i
 enum-known-i c = search needs

@@ -28,7 +28,7 @@ enum-told : tie.Need-enum-told
 enum-told c = search needs
 
 carry-within-requires : tie.Need-carry-within-requires
-carry-within-requires c κs = let p = c .before .before .before .before .before .before .before .before .before .before .before .before .before .before .before .pre in ((p .0 .0, omega (arith, p .0 .1), p .1 .0 .0, p .1 .0 .1, p .1 .0 .2), p .1 .1)
+carry-within-requires c κs = let p = c .before .before .before .before .before .before .before .before .before .before .before .before .before .before .before .pre in ((p .0 .0, omega (arith, p .0 .1), p .1 .0 .0, p .1 .0 .1), p .1 .1)
 
 same-length-2 : tie.Need-same-length-2
 same-length-2 c = search needs

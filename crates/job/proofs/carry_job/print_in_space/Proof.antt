@@ -25,7 +25,7 @@ slice-aggregate-print-carried : tie.Need-slice-aggregate-print-carried
 slice-aggregate-print-carried c = search needs
 
 print-carried-requires : tie.Need-print-carried-requires
-print-carried-requires c κs = let p = c .before .before .before .before .before .before .before .before .before .before .before .before .before .pre in ((p .0 .0, p .0 .2), ((search needs, search needs, omega (arith, c .before .before .before .before .before .if1 .taken)), p .1))
+print-carried-requires c κs = let p = c .before .before .before .before .before .before .before .before .before .before .before .before .before .pre in ((p .0 .0, p .0 .2), ((search needs, omega (arith, c .before .before .before .before .before .if1 .taken)), p .1))
 
 same-length : tie.Need-same-length
 same-length c = search needs
@@ -52,7 +52,7 @@ slice-aggregate-print-carried-2 : tie.Need-slice-aggregate-print-carried-2
 slice-aggregate-print-carried-2 c = search needs
 
 print-carried-requires-2 : tie.Need-print-carried-requires-2
-print-carried-requires-2 c κs = let p = c .before .before .before .before .before .before .before .before .before .before .before .before .before .pre in ((p .0 .0, p .0 .2), ((search needs, search needs, omega (arith, p .0 .2)), p .1))
+print-carried-requires-2 c κs = let p = c .before .before .before .before .before .before .before .before .before .before .before .before .before .pre in ((p .0 .0, p .0 .2), ((search needs, omega (arith, p .0 .2)), p .1))
 
 same-length-2 : tie.Need-same-length-2
 same-length-2 c = search needs

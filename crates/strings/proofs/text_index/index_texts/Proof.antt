@@ -1,4 +1,4 @@
-use Rattle.strings.specs.Keys.{bucketOf, bucketAt, textBuckets, TextsFrom}
+use Rattle.strings.specs.Keys.{bucketOf, bucketAt, TextsFrom}
 use Rattle.hash_index.proofs.ChainLaws.{in-none, in-more}
 use lib.ListN.{length}
 use Prim.Native.Nat.{_-_, _≤_}
@@ -14,15 +14,18 @@ Inv-loop bytes ends index₀ m left₀ index left = (left ≤ length ends) × Te
 abbrev μ-loop : tie.MeasureT-loop
 μ-loop bytes ends index₀ m left₀ index left = left
 
+buckets-of-requires : tie.Need-buckets-of-requires Inv-loop μ-loop
+buckets-of-requires c κs = search needs
+
 empty-heads-requires : tie.Need-empty-heads-requires Inv-loop μ-loop
 empty-heads-requires c κs = search needs
 
 loop-holds : tie.Need-loop-holds Inv-loop μ-loop
 loop-holds c =
-    let st = c .before .before .before .before .before .before .before in
+    let m = c .before .before .before .before .buckets-of in
+    let st = c .before .before .before .before .before .before .before .before in
     let a = st .args in
-    let m = textBuckets (a .index .now) in
-    (omega arith, in-none (bucketAt m (a .bytes .now) (a .ends .now)) m (length (a .ends .now)) (a .index .now) _ (c .before .before .empty-heads .ensures) (st .pre .2), refl)
+    (omega arith, in-none (bucketAt (m .result) (a .bytes .now) (a .ends .now)) (m .result) (length (a .ends .now)) (a .index .now) _ (c .before .before .empty-heads .ensures) (omega (arith, m .ensures, st .pre .1)), refl)
 
 sub-id : tie.Need-sub-id Inv-loop μ-loop
 sub-id c = search needs
@@ -45,8 +48,8 @@ loop-less c = search needs
 loop-again : tie.Need-loop-again Inv-loop μ-loop
 unfolding bucketAt
 loop-again c =
-    let a = c .before .before .before .before .before .before .before .before .before .before .before .before .before .before .before .args in
-    let m = textBuckets (a .index .now) in
+    let a = c .before .before .before .before .before .before .before .before .before .before .before .before .before .before .before .before .args in
+    let m = c .before .before .before .before .before .before .before .before .before .before .before .before .buckets-of .result in
     let l = c .before .before .before .before .before .before .before .loop in
     let h = c .before .before .before .before .bucket-of in
     let s = c .before .before .put-in-front in
@@ -58,10 +61,8 @@ same-length c = search needs
 returns : tie.Need-returns Inv-loop μ-loop
 returns c =
     let l = c .before .loop in
-    let st = c .before .before .before .before .before .before .before .before .before in
     let z : l .left ≡ 0 = omega arith in
-    let m : textBuckets (l .index) ≡ textBuckets (st .args .index .now) = omega (arith, l .inv .2, c .before .before .before .before .empty-heads .kept .0) in
-    record { some = omega (arith, m, st .pre .0); chained = rw m (rw z at (l .inv .1)) }
+    rw (c .before .before .before .before .before .before .buckets-of .ensures, z) at (l .inv .1)
 
 pub index-texts-spec : {M : Type 1} → statement M
 index-texts-spec =
@@ -69,6 +70,7 @@ index-texts-spec =
     (tie.spec
     Inv-loop
     μ-loop
+    buckets-of-requires
     empty-heads-requires
     loop-holds
     sub-id

@@ -1,6 +1,8 @@
 pub mod PairLaws
 pub mod OperandLoop
 pub mod TableLaws
+pub mod PlanLaws
+pub mod PlanLoop
 pub mod StoreLaws
 pub mod BodyLoop
 pub mod BodyAnswers

@@ -9,10 +9,9 @@ use lib.Seq.{paste, paste-zero, paste-suc, take-paste, drop-paste, take-add, dro
 use Rattle.lists.specs.Scan.{part}
 use Rattle.spec_numbers.specs.LittleEndian.{le}
 use Rattle.spec_sheet.specs.Types.{widthOf, kindOf}
-use Rattle.spec_sheet.specs.Row.{sumBy, totalWidth}
+use Rattle.spec_sheet.specs.Row.{sumBy, totalWidth, lengthOf, countOf}
 use Rattle.spec_body.specs.Record.{pairs, recordOf}
 use Rattle.spec_body.proofs.DecodeLaws.{length-record}
-use Rattle.decode.specs.Tables.{headRow}
 
 -- the i-th operand's kind and bits
 pub pairs-kind : (row s : List ℕ) (p i : ℕ) → i < length row → getD (pairs row s p) (2 * i) 0 ≡ kindOf (getD row i 0)
@@ -48,14 +47,14 @@ rest-more d r k m n hk hm =
     rw (e, take-paste d k r m hk hm, take-add m n r, append-assoc (take k d) (take m r) (take n (drop m r)))
 
 -- two words and two words and the operands' words are a record
-pub record-written : (row s head d o₁ o₂ o₃ : List ℕ) (k at first op size count : ℕ) → length row ≡ 8 → k + 20 ≤ length d → head ≡ headRow row
-    → first ≡ at → op ≡ getD s at 0 → size ≡ getD head 0 0 → count ≡ getD head 1 0
+pub record-written : (row s d o₁ o₂ o₃ : List ℕ) (k at first op size count : ℕ) → length row ≡ 8 → k + 20 ≤ length d
+    → first ≡ at → op ≡ getD s at 0 → size ≡ lengthOf row → count ≡ countOf row
     → o₁ ≡ set (set d k first) (k + 1) op → o₂ ≡ set (set o₁ (k + 2) size) (k + 2 + 1) count → o₃ ≡ paste o₂ (k + 4) (pairs row s (at + 1)) 16
     → o₃ ≡ paste d k (recordOf row s at) 20
-record-written row s head d o₁ o₂ o₃ k at first op size count hr hk hh ef eo es ec e₁ e₂ e₃ =
+record-written row s d o₁ o₂ o₃ k at first op size count hr hk ef eo es ec e₁ e₂ e₃ =
     let r = recordOf row s at in
     let l : length r ≡ 20 = length-record row s at hr in
     let f₁ : o₁ ≡ paste d k r 2 = e₁ ∙ two-more d d r k 0 k first op (omega arith) (omega arith) (omega arith) (paste-zero d k r) ef eo in
     let f₂ : o₂ ≡ paste d k r 4 =
-    e₂ ∙ two-more d o₁ r k 2 (k + 2) size count (omega arith) (omega arith) refl f₁ (es ∙ ap (λ (h : List ℕ). getD h 0 0) hh) (ec ∙ ap (λ (h : List ℕ). getD h 1 0) hh) in
+    e₂ ∙ two-more d o₁ r k 2 (k + 2) size count (omega arith) (omega arith) refl f₁ es ec in
     e₃ ∙ (rw f₂ (rest-more d r k 4 16 (omega arith) (omega arith)))

@@ -8,7 +8,9 @@ ghost use Rattle.spec_body.specs.Record.{recordOf, join};
 ghost use Rattle.spec_body.specs.Decode.{decodeBody};
 ghost use Rattle.spec_body.specs.Decode.Decoded.{decoded};
 ghost use Rattle.decode.specs.Bodies.{storedAt, bodyAnswer};
-ghost use Rattle.decode.specs.Tables.{CodeRows, headRow};
+ghost use Rattle.decode.specs.Tables.{PlanOf};
+use crate::tables::LENGTH;
+use crate::tables::Plan;
 use answers::refusal::Refusal;
 use slices::widen::byte_index;
 
@@ -19,20 +21,12 @@ pub(crate) enum Body {
 }
 
 // Writes the record of an instruction as the n-th, where there is room for it.
-fn store_record(
-    out: &mut [u64],
-    n: usize,
-    row: [u8; 8],
-    head: [u8; 2],
-    codes: &[[u8; 2]; 256],
-    s: &[u8],
-    at: usize,
-)
-    requires { ⌜ (head ≡ headRow row) × CodeRows (now codes) × (at + lengthOf row ≤ length (now s)) ⌝ }
-    ensures { λ _. ⌜ (now (out .exit) ≡ storedAt (now (out .entry)) n (recordOf row (now (s .entry)) at)) × (length row ≡ 8) ⌝ }
+fn store_record(out: &mut [u64], n: usize, row: [u8; 8], plan: &Plan, s: &[u8], at: usize)
+    requires { ⌜ PlanOf row (now plan) × (at + lengthOf row ≤ length (now s)) ⌝ }
+    ensures { λ _. ⌜ now (out .exit) ≡ storedAt (now (out .entry)) n (recordOf row (now (s .entry)) at) ⌝ }
 {
     if n < out.len() / 20 {
-        crate::record::put_record(out, n * 20, row, head, codes, s, at);
+        crate::record::put_record(out, n * 20, row, plan, s, at);
     }
 }
 
@@ -41,8 +35,7 @@ pub(crate) fn decode_body(types: &[[u8; 8]; 256], last: usize, s: &[u8], out: &m
     ensures { λ r. ⌜ r ≡ bodyAnswer (decodeBody (now (types .entry)) last (now (s .entry))) ⌝ }
     ensures { λ _. ⌜ ((rs : List (List ℕ)) → decodeBody (now (types .entry)) last (now (s .entry)) ≡ decoded rs → (length (join rs) ≡ 20 * length rs) × (20 * length rs ≤ length (now (out .entry)) → now (out .exit) ≡ join rs ++ drop (20 * length rs) (now (out .entry)))) ⌝ }
 {
-    let codes = crate::tables::code_rows();
-    let heads = crate::tables::head_rows(types, last);
+    let plans = crate::tables::plan_rows(types, last);
     let mut n: usize = 0;
     let mut at: usize = 0;
     while at < s.len() {
@@ -51,12 +44,12 @@ pub(crate) fn decode_body(types: &[[u8; 8]; 256], last: usize, s: &[u8], out: &m
             return Body::Refused(Refusal::Beyond(at));
         }
         let row = types[op];
-        let head = heads[op];
-        let size = byte_index(head[0]);
+        let plan = &plans[op];
+        let size = byte_index(plan[LENGTH]);
         if s.len() - at < size {
             return Body::Refused(Refusal::Cut(at));
         }
-        store_record(out, n, row, head, &codes, s, at);
+        store_record(out, n, row, plan, s, at);
         at += size;
         n += 1;
     }

@@ -1,11 +1,13 @@
 use mathlib.Core.Path.{_≡_, sym, _∙_, ap}
 use Prim.Native.Nat.{_-_}
 use native.Mathlib.Omega.{arith}
-use lib.ListN.{length}
+use mathlib.Core.List.{[]}
+use lib.ListN.{length, getD}
 use Rattle.spec_body.specs.Decode.{rowAt}
 use Rattle.spec_sheet.specs.Row.{lengthOf}
 use Rattle.decode.specs.Bodies.{bodyAnswer}
-use Rattle.decode.proofs.TableLaws.{length-in}
+use Rattle.decode.specs.Tables.{PlanOf}
+use Rattle.decode.proofs.PlanLaws.{plan-length}
 use Rattle.decode.proofs.BodyLoop.{Going, start, ended, stopped, broken, turn, not-whole, all-written}
 use Rattle.decode.specs.declared.body.Body.the-variants.{Records}
 use borrow.Author.Needs.{needs}
@@ -13,16 +15,13 @@ use Rattle.decode.proofs.body.decode_body.Statement.{statement}
 use Rattle.decode.proofs.body.decode_body.Tie as tie
 
 abbrev Inv-loop : tie.InvT-loop
-Inv-loop types last s out₀ codes heads n₀ at₀ out n at = Going types last s out₀ out n at
+Inv-loop types last s out₀ plans n₀ at₀ out n at = Going types last s out₀ out n at
 
 abbrev μ-loop : tie.MeasureT-loop
-μ-loop types last s out₀ codes heads n₀ at₀ out n at = length s - at
+μ-loop types last s out₀ plans n₀ at₀ out n at = length s - at
 
-code-rows-requires : tie.Need-code-rows-requires Inv-loop μ-loop
-code-rows-requires c κs = search needs
-
-head-rows-requires : tie.Need-head-rows-requires Inv-loop μ-loop
-head-rows-requires c κs = search needs
+plan-rows-requires : tie.Need-plan-rows-requires Inv-loop μ-loop
+plan-rows-requires c κs = search needs
 
 loop-holds : tie.Need-loop-holds Inv-loop μ-loop
 loop-holds c = start _ _ _ _
@@ -49,14 +48,14 @@ mul-row c = omega (arith, c .before .shared-slice-known2 .given (c .before .befo
 element-copy-out-row : tie.Need-element-copy-out-row Inv-loop μ-loop
 element-copy-out-row c = c .before .shared-slice-known2 .given (c .before .before .before .loop .at) .fits
 
-mul-head : tie.Need-mul-head Inv-loop μ-loop
-mul-head c = omega (arith, c .before .before .shared-slice-known2 .given (c .before .before .before .before .loop .at))
+mul-plan : tie.Need-mul-plan Inv-loop μ-loop
+mul-plan c = omega (arith, c .before .before .shared-slice-known2 .given (c .before .before .before .before .loop .at))
 
-array-copy-out-head : tie.Need-array-copy-out-head Inv-loop μ-loop
-array-copy-out-head c = c .before .before .shared-slice-known2 .given (c .before .before .before .before .loop .at) .fits
+index-1-plan : tie.Need-index-1-plan Inv-loop μ-loop
+index-1-plan c = c .before .before .shared-slice-known2 .given (c .before .before .before .before .loop .at) .fits
 
-array-read-byte-index : tie.Need-array-read-byte-index Inv-loop μ-loop
-array-read-byte-index c = search needs
+element-copy-out-byte-index : tie.Need-element-copy-out-byte-index Inv-loop μ-loop
+element-copy-out-byte-index c = search needs
 
 byte-index-requires : tie.Need-byte-index-requires Inv-loop μ-loop
 byte-index-requires c κs = search needs
@@ -64,27 +63,26 @@ byte-index-requires c κs = search needs
 sub-if2 : tie.Need-sub-if2 Inv-loop μ-loop
 sub-if2 c = search needs
 
--- the size that is looked up is the instruction's length
-size-is : (c : tie.After-byte-index Inv-loop μ-loop) → c .byte-index .result ≡ lengthOf (rowAt (c .before .before .before .before .before .before .before .before .before .before .before .args .types .now) (c .before .before .before .before .before .before .before .before .before .before .before .args .s .now) (c .before .before .before .before .before .before .loop .at))
-size-is c =
-    let a = c .before .before .before .before .before .before .before .before .before .before .before .args in
-    c .byte-index .ensures
-    ∙ length-in (a .types .now) (a .last) (c .before .before .before .before .before .before .before .head-rows .result) _ (c .before .before .before .before .before .before .before .head-rows .ensures) (c .before .before .before .before .shared-slice-known2 .given (c .before .before .before .before .before .before .loop .at) .fits) (c .before .before .before .if1 .left)
+-- the plan that is looked up is the row's, and so is the size
+plan-is : (c : tie.After-plan Inv-loop μ-loop) → PlanOf (rowAt (c .before .before .before .before .before .before .before .before .before .args .types .now) (c .before .before .before .before .before .before .before .before .before .args .s .now) (c .before .before .before .before .before .loop .at)) (getD (c .before .before .before .before .before .before .plan-rows .result) (getD (c .before .before .before .before .before .before .before .before .before .args .s .now) (c .before .before .before .before .before .loop .at) 0) [])
+plan-is c = c .before .before .before .before .before .before .plan-rows .ensures _ (c .before .before .before .shared-slice-known2 .given (c .before .before .before .before .before .loop .at) .fits) (c .before .before .if1 .left)
+
+size-is : (c : tie.After-byte-index Inv-loop μ-loop) → c .byte-index .result ≡ lengthOf (rowAt (c .before .before .before .before .before .before .before .before .before .before .before .args .types .now) (c .before .before .before .before .before .before .before .before .before .before .before .args .s .now) (c .before .before .before .before .before .before .before .loop .at))
+size-is c = c .byte-index .ensures ∙ plan-length _ _ (plan-is (c .before .before))
 
 same-length-2 : tie.Need-same-length-2 Inv-loop μ-loop
-same-length-2 c = c .before .before .before .before .before .before .before .loop .inv .same
+same-length-2 c = c .before .before .before .before .before .before .before .before .loop .inv .same
 
 returns-2 : tie.Need-returns-2 Inv-loop μ-loop
 unfolding bodyAnswer
 returns-2 c =
-    let l = c .before .before .before .before .before .before .before .loop in
-    let e = broken _ _ _ _ _ _ _ (l .inv) (c .before .before .before .before .before .before .loop-test .taken) (c .before .before .before .before .if1 .left) _ (size-is (c .before)) (c .if2 .taken) in
+    let l = c .before .before .before .before .before .before .before .before .loop in
+    let e = broken _ _ _ _ _ _ _ (l .inv) (c .before .before .before .before .before .before .before .loop-test .taken) (c .before .before .before .before .before .if1 .left) _ (size-is (c .before)) (c .if2 .taken) in
     (sym (ap bodyAnswer e), (λ rs f. not-whole _ e f))
 
 store-record-requires : tie.Need-store-record-requires Inv-loop μ-loop
 store-record-requires c κs =
-    let b = c .before .before .before .before .before .before .before .shared-slice-known2 .given (c .before .before .before .before .before .before .before .before .before .loop .at) .fits in
-    (c .before .before .before .before .before .before .before .before .before .before .head-rows .ensures _ b (c .before .before .before .before .before .before .if1 .left), c .before .before .before .before .before .before .before .before .before .before .before .code-rows .ensures, omega (arith, size-is (c .before .before .before), c .before .before .if2 .left, c .before .before .before .before .before .before .before .before .loop-test .taken))
+    (plan-is (c .before .before .before .before), omega (arith, size-is (c .before .before), c .before .if2 .left, c .before .before .before .before .before .before .before .before .loop-test .taken))
 
 add-at : tie.Need-add-at Inv-loop μ-loop
 add-at c = search needs
@@ -93,13 +91,13 @@ add-n : tie.Need-add-n Inv-loop μ-loop
 add-n c = search needs
 
 loop-less : tie.Need-loop-less Inv-loop μ-loop
-loop-less c = omega (arith, size-is (c .before .before .before .before .before .before), c .before .before .before .before .before .if2 .left, c .before .before .before .before .before .before .before .before .before .before .before .loop-test .taken)
+loop-less c = omega (arith, size-is (c .before .before .before .before .before), c .before .before .before .before .if2 .left, c .before .before .before .before .before .before .before .before .before .before .before .loop-test .taken)
 
 loop-again : tie.Need-loop-again Inv-loop μ-loop
 loop-again c =
     let l = c .before .before .before .before .before .before .before .before .before .before .before .before .loop in
     let w = c .before .before .store-record in
-    turn _ _ _ _ _ _ _ (l .inv) (c .before .before .before .before .before .before .before .before .before .before .before .loop-test .taken) (c .before .before .before .before .before .before .before .before .before .if1 .left) _ (size-is (c .before .before .before .before .before .before)) _ (c .before .before .before .before .before .if2 .left) (w .kept .0) (w .ensures .1) (w .ensures .0)
+    turn _ _ _ _ _ _ _ (l .inv) (c .before .before .before .before .before .before .before .before .before .before .before .loop-test .taken) (c .before .before .before .before .before .before .before .before .before .if1 .left) _ (size-is (c .before .before .before .before .before)) _ (c .before .before .before .before .if2 .left) (w .kept .0) (plan-is (c .before .before .before .before .before .before .before) .1) (w .ensures)
 
 same-length-3 : tie.Need-same-length-3 Inv-loop μ-loop
 same-length-3 c = c .before .loop .inv .same
@@ -117,8 +115,7 @@ decode-body-spec =
     (tie.spec
     Inv-loop
     μ-loop
-    code-rows-requires
-    head-rows-requires
+    plan-rows-requires
     loop-holds
     shared-slice-read-op
     cast-op
@@ -126,9 +123,9 @@ decode-body-spec =
     returns
     mul-row
     element-copy-out-row
-    mul-head
-    array-copy-out-head
-    array-read-byte-index
+    mul-plan
+    index-1-plan
+    element-copy-out-byte-index
     byte-index-requires
     sub-if2
     same-length-2

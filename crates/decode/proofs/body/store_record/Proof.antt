@@ -17,14 +17,11 @@ same-length c = search needs
 
 returns : tie.Need-returns
 returns c =
-    let a = c .before .before .before .before .before .before .before .args in
-    let w = c .before .before .put-record .ensures in
-    (w .0 ∙ stored (a .out .now) (a .n) _ (omega arith) (length-record (a .row) (a .s .now) (a .at) (w .1)), w .1)
+    let a = c .before .before .before .before .before .before .before in
+    c .before .before .put-record .ensures ∙ stored (a .args .out .now) (a .args .n) _ (omega arith) (length-record (a .args .row) (a .args .s .now) (a .args .at) (a .pre .0 .1))
 
 returns-2 : tie.Need-returns-2
-returns-2 c =
-    let a = c .before .before .before .args in
-    (sym (not-stored (a .out .now) (a .n) _ (omega arith)), search needs)
+returns-2 c = let a = c .before .before .before .args in sym (not-stored (a .out .now) (a .n) _ (omega arith))
 
 pub store-record-spec : {M : Type 1} → statement M
 store-record-spec =

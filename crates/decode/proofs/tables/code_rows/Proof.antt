@@ -1,4 +1,5 @@
 use Prim.Native.Nat.{_-_, _≤_}
+use mathlib.Core.Path.{_≡_}
 use Rattle.decode.specs.Tables.{codeRow}
 use Rattle.decode.proofs.TableLaws.{Filled, none-made, one-more, codes-made}
 use borrow.Author.Needs.{needs}
@@ -6,13 +7,13 @@ use Rattle.decode.proofs.tables.code_rows.Statement.{statement}
 use Rattle.decode.proofs.tables.code_rows.Tie as tie
 
 abbrev Inv-loop : tie.InvT-loop
-Inv-loop rows₀ c₀ rows c = (c ≤ 13) × Filled codeRow rows₀ rows c
+Inv-loop rows₀ c₀ rows c = (c ≤ 13) × Filled (λ c row. row ≡ codeRow c) rows₀ rows c
 
 abbrev μ-loop : tie.MeasureT-loop
 μ-loop rows₀ c₀ rows c = 13 - c
 
 loop-holds : tie.Need-loop-holds Inv-loop μ-loop
-loop-holds c = (search needs, none-made codeRow _)
+loop-holds c = (search needs, none-made _ _)
 
 cast-code-row : tie.Need-cast-code-row Inv-loop μ-loop
 cast-code-row c = search needs
@@ -35,7 +36,7 @@ loop-less c = search needs
 loop-again : tie.Need-loop-again Inv-loop μ-loop
 loop-again c =
     let l = c .before .before .loop in
-    (search needs, one-more codeRow _ _ _ _ (l .inv .1) (search needs) (c .code-row .ensures))
+    (search needs, one-more _ _ _ _ _ (l .inv .1) (search needs) (c .code-row .ensures))
 
 returns : tie.Need-returns Inv-loop μ-loop
 returns c = codes-made _ _ (c .before .loop .inv .1) (c .loop-test .left)

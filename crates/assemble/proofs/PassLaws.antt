@@ -1,12 +1,12 @@
 -- From one pass over a text to the next. Assumes nothing.
 use mathlib.Core.Path.{_≡_, refl, sym, _∙_}
 use mathlib.Core.List.{List, [], _∷_}
-use mathlib.Core.Bool.{Bool, true}
+use mathlib.Core.Bool.{Bool, true, false}
 use Prim.Native.Nat.{ℕ, _≤_}
 use native.Mathlib.Omega.{arith}
 use lib.ListN.{length, take}
 use lib.Seq.{take-all}
-use Rattle.limits.specs.Limits.{textLimit}
+use Rattle.lists.proofs.Tests.{true-not-false}
 use Rattle.answers.specs.Report.{zeros}
 use Rattle.answers.specs.Refusals.{refusalReport}
 use Rattle.answers.specs.Outcome.{Ended}
@@ -17,15 +17,18 @@ use Rattle.spec_hasm.specs.Text.{linesOf}
 use Rattle.spec_hasm.specs.Assemble.{Assembled, codesOf, unlessBadLine, unlessBadName, labelsFrom, bytesFrom, assembleCodes, assembleText}
 use Rattle.spec_hasm.specs.Assemble.Assembled.{notAssembled}
 use Rattle.spec_hasm.specs.Operation.{assembleOutcome}
-use Rattle.sheet.specs.Keys.{NamesIndexed}
-use Rattle.hasm_read.specs.Lines.{ShortLines}
+use Rattle.hasm_labels.specs.LongLabels.{bareLabel, longOf}
+use Rattle.hasm_labels.specs.Keys.{LabelsIndexed}
+use Rattle.hasm_labels.specs.Labelled.{Labelled}
 use Rattle.hasm_labels.specs.NamesRead.{AllNamed}
+use Rattle.hasm_labels.specs.declared.label_target.Known.{Known}
+use Rattle.hasm_labels.specs.declared.names_pass.Taken.{Taken}
 use Rattle.operation.specs.Ends.{measuredOf, leftBy, measuredReport}
 use Rattle.operation.specs.declared.ending.Measured.{Measured}
 use Rattle.operation.proofs.EndLaws.{measured-end}
-use Rattle.assemble.specs.Contexts.{labelsOf, LabelsKnown}
+use Rattle.assemble.specs.Contexts.{labelsOf}
 use Rattle.assemble.specs.Bodies.{BodyPut}
-use Rattle.assemble.specs.Passes.{Named, NamesGood}
+use Rattle.assemble.specs.Passes.{Named}
 
 -- a text that no earlier pass refuses evaluates to its instructions' bytes
 pub good-text : (e : Context) (text : List ℕ) → ((rest : Assembled) → unlessBadLine 1 (linesOf text) rest ≡ rest) → ((rest : Assembled) → unlessBadName e (codesOf e text) rest ≡ rest)
@@ -33,16 +36,20 @@ pub good-text : (e : Context) (text : List ℕ) → ((rest : Assembled) → unle
 unfolding assembleText assembleCodes
 good-text e text l n = l _ ∙ n _
 
--- what the search for a label asks for
-pub labels-known : {text source : List ℕ} (names : List ℕ) {types ops slots held : List (List ℕ)} {count : ℕ} (fits : Bool) → NamesIndexed source ops names → length text ≤ textLimit → ShortLines text
-    → NamesGood source types ops text count slots → (fits ≡ true → count ≤ length slots) → (count ≤ length slots → held ≡ take count slots) → LabelsKnown text source types ops names held fits
-labels-known names fits i l s n f h = (
-  (i, l, s),
-  λ bytes ends. record {
-    named = n bytes ends .named;
-    whole = λ t. let fit = f t in rw (h fit) (n bytes ends .held fit);
-  },
-)
+-- what is known of the labels, from the slots that hold the long ones where they fit; then with an index of them
+module _ {e : Context} {text : List ℕ} {slots held : List (List ℕ)} {taken : Taken} (n : Named e text taken slots) where
+  pub listed : (fits : Bool) → (fits ≡ true → taken .kept ≤ length slots) → (taken .kept ≤ length slots → held ≡ take (taken .kept) slots)
+      → Labelled e text held [] (record { listed = fits; indexed = false; has = taken .has; place = taken .place })
+  listed fits f h = record {
+    named = n .named;
+    whole = λ t. let fit = f t in rw (h fit) (n .held fit);
+    chained = λ t. true-not-false false t refl;
+    bare = n .bare;
+  }
+
+pub with-index : {e : Context} {text : List ℕ} {slots : List (List ℕ)} {known : Known} {index : List ℕ} (indexed : Bool) → Labelled e text slots [] known → (indexed ≡ true → LabelsIndexed text slots index)
+    → Labelled e text slots index (record { listed = known .listed; indexed = indexed; has = known .has; place = known .place })
+with-index indexed l h = record { named = l .named; whole = l .whole; chained = h; bare = l .bare }
 
 -- the answer and the output of a text whose instructions x were written and measured
 pub body-end : {x : Assembled} {before now after : List ℕ} (entries k count room : ℕ) (m : Measured) → BodyPut x before now k → count ≡ entries → m ≡ measuredOf k 65536 count room (length now) → after ≡ leftBy m now
@@ -57,13 +64,13 @@ unfolding assembleOutcome
 refused-text {y = y} {before} {room} {after} entries e z = refused-end _ y before room after _ (rw e refl) refl z
 
 -- the names of a text, from the pass's answer
-module _ {e : Context} {text t : List ℕ} {slots slots′ : List (List ℕ)} where
-  pub were-good : {count : ℕ} {has : Bool} {offset : ℕ} → AllNamed e text t slots slots′ count has offset → Named e text count slots′
-  were-good h = record {
-    named = h .named;
-    counted = h .counted;
-    held = λ l. h .stored ∙ take-all (length slots′) (labelsFrom e 0 (codesOf e text)) (omega (arith, h .counted));
-  }
+pub were-good : {e : Context} {text : List ℕ} {slots slots′ : List (List ℕ)} {taken : Taken} → AllNamed e text bareLabel slots slots′ taken → Named e text taken slots′
+were-good {e} {text} {slots} {slots′} h = record {
+  named = h .named;
+  counted = h .counted;
+  held = λ l. h .stored ∙ take-all (length slots′) (longOf (labelsFrom e 0 (codesOf e text))) (omega (arith, h .long, l));
+  bare = h .place;
+}
 
 -- a text whose lines are good, and a name of which is refused
 pub name-refused : (e : Context) (text : List ℕ) {x : Refusal} → ((rest : Assembled) → unlessBadLine 1 (linesOf text) rest ≡ rest) → ((rest : Assembled) → unlessBadName e (codesOf e text) rest ≡ notAssembled x)

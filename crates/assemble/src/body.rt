@@ -12,6 +12,7 @@ use crate::instruction::Step;
 use crate::operands::Place;
 use answers::refusal::Refusal;
 use hasm_labels::label_entry::Slot;
+use hasm_labels::label_target::Known;
 
 // The length of the body, or the refusal of an operand, 6 to 12.
 pub enum Bytes {
@@ -30,12 +31,13 @@ pub(crate) fn put_instructions(
     ops: &[[usize; 4]; 256],
     names: &[u32],
     labels: &[Slot],
-    fits: bool,
+    index: &[u32],
+    known: Known,
     work: &mut [u8],
     out: &mut [u8],
 ) -> Bytes
     requires { ⌜ TextsIndexed (now bytes) (now ends) (now ids) × (lineLimit ≤ length (now work)) ⌝ }
-    requires { ⌜ LabelsKnown (now text) (now sheet) (now types) (now ops) (now names) (now labels) fits ⌝ }
+    requires { ⌜ LabelsKnown (now text) (now sheet) (now types) (now ops) (now names) (now labels) (now index) known ⌝ }
     ensures { λ r. ⌜ BytesPut (bytesFrom (contextFrom (now (sheet .entry)) (now (types .entry)) (now (ops .entry)) (now (bytes .entry)) (now (ends .entry))) (labelsOf (contextFrom (now (sheet .entry)) (now (types .entry)) (now (ops .entry)) (now (bytes .entry)) (now (ends .entry))) (now (text .entry))) 0 (codesOf (contextFrom (now (sheet .entry)) (now (types .entry)) (now (ops .entry)) (now (bytes .entry)) (now (ends .entry))) (now (text .entry)))) (now (out .entry)) (now (out .exit)) r ⌝ }
 {
     let mut place = Place { offset: 0, k: 0 };
@@ -55,7 +57,8 @@ pub(crate) fn put_instructions(
             ops,
             names,
             labels,
-            fits,
+            index,
+            known,
             work,
             out,
         );

@@ -16,6 +16,7 @@ use crate::operands::Operands;
 use crate::operands::Place;
 use answers::refusal::OperandFault;
 use hasm_labels::label_entry::Slot;
+use hasm_labels::label_target::Known;
 use hasm_read::statement::Statement;
 use slices::search::Found;
 use slices::write::put_byte;
@@ -55,12 +56,13 @@ pub(crate) fn put_instruction(
     ops: &[[usize; 4]; 256],
     names: &[u32],
     labels: &[Slot],
-    fits: bool,
+    index: &[u32],
+    known: Known,
     work: &mut [u8],
     out: &mut [u8],
 ) -> Step
     requires { ⌜ TextsIndexed (now bytes) (now ends) (now ids) × (length (now s) ≤ lineLimit) × (lineLimit ≤ length (now work)) ⌝ }
-    requires { ⌜ (place .offset < 2147483648) × LabelsKnown (now text) (now sheet) (now types) (now ops) (now names) (now labels) fits ⌝ }
+    requires { ⌜ (place .offset < 2147483648) × LabelsKnown (now text) (now sheet) (now types) (now ops) (now names) (now labels) (now index) known ⌝ }
     ensures { λ r. ⌜ InstructionPut (contextFrom (now (sheet .entry)) (now (types .entry)) (now (ops .entry)) (now (bytes .entry)) (now (ends .entry))) (labelsOf (contextFrom (now (sheet .entry)) (now (types .entry)) (now (ops .entry)) (now (bytes .entry)) (now (ends .entry))) (now (text .entry))) (now (s .entry)) place (now (out .entry)) (now (out .exit)) r ⌝ }
 {
     let offset = place.offset;
@@ -85,7 +87,8 @@ pub(crate) fn put_instruction(
         ops,
         names,
         labels,
-        fits,
+        index,
+        known,
         work,
         out,
     );
@@ -111,12 +114,13 @@ pub(crate) fn put_line(
     ops: &[[usize; 4]; 256],
     names: &[u32],
     labels: &[Slot],
-    fits: bool,
+    index: &[u32],
+    known: Known,
     work: &mut [u8],
     out: &mut [u8],
 ) -> Step
     requires { ⌜ TextsIndexed (now bytes) (now ends) (now ids) × (lineLimit ≤ length (now work)) ⌝ }
-    requires { ⌜ LineAt (now text) (span .at) (span .end) (place .offset) × LabelsKnown (now text) (now sheet) (now types) (now ops) (now names) (now labels) fits ⌝ }
+    requires { ⌜ LineAt (now text) (span .at) (span .end) (place .offset) × LabelsKnown (now text) (now sheet) (now types) (now ops) (now names) (now labels) (now index) known ⌝ }
     ensures { λ r. ⌜ ((out₀ : List ℕ) (n : ℕ) → Going (contextFrom (now (sheet .entry)) (now (types .entry)) (now (ops .entry)) (now (bytes .entry)) (now (ends .entry))) (labelsOf (contextFrom (now (sheet .entry)) (now (types .entry)) (now (ops .entry)) (now (bytes .entry)) (now (ends .entry))) (now (text .entry))) (now (text .entry)) out₀ (now (out .entry)) (span .at) n place → Turned (contextFrom (now (sheet .entry)) (now (types .entry)) (now (ops .entry)) (now (bytes .entry)) (now (ends .entry))) (labelsOf (contextFrom (now (sheet .entry)) (now (types .entry)) (now (ops .entry)) (now (bytes .entry)) (now (ends .entry))) (now (text .entry))) (now (text .entry)) out₀ (now (out .exit)) (span .end + 1) n place r) ⌝ }
 {
     let line = hasm_read::lines::line_of(text, span.at, span.end);
@@ -136,7 +140,8 @@ pub(crate) fn put_line(
             ops,
             names,
             labels,
-            fits,
+            index,
+            known,
             work,
             out,
         ),

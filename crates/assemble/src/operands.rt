@@ -12,6 +12,7 @@ ghost use Rattle.spec_inputs.specs.Context.{contextFrom};
 use crate::token_operand::operand_value;
 use answers::refusal::OperandFault;
 use hasm_labels::label_entry::Slot;
+use hasm_labels::label_target::Known;
 use hasm_tokens::number_token::Value;
 
 // The next place in the output, or what is wrong with an operand, and which one, counted from 1.
@@ -48,12 +49,13 @@ pub(crate) fn put_operands(
     ops: &[[usize; 4]; 256],
     names: &[u32],
     labels: &[Slot],
-    fits: bool,
+    index: &[u32],
+    known: Known,
     work: &mut [u8],
     out: &mut [u8],
 ) -> Operands
     requires { ⌜ TextsIndexed (now bytes) (now ends) (now ids) × (length (now s) ≤ lineLimit) × (lineLimit ≤ length (now work)) ⌝ }
-    requires { ⌜ (place .offset < 2 ^ 32) × LabelsKnown (now text) (now sheet) (now types) (now ops) (now names) (now labels) fits ⌝ }
+    requires { ⌜ (place .offset < 2 ^ 32) × LabelsKnown (now text) (now sheet) (now types) (now ops) (now names) (now labels) (now index) known ⌝ }
     ensures { λ r. ⌜ OperandsPut (operandsFrom (contextFrom (now (sheet .entry)) (now (types .entry)) (now (ops .entry)) (now (bytes .entry)) (now (ends .entry))) (labelsOf (contextFrom (now (sheet .entry)) (now (types .entry)) (now (ops .entry)) (now (bytes .entry)) (now (ends .entry))) (now (text .entry))) (place .offset) 1 row (tokens (splitOutside (now (s .entry))))) (now (out .entry)) (place .k) (now (out .exit)) r ⌝ }
 {
     let offset = place.offset;
@@ -80,7 +82,8 @@ pub(crate) fn put_operands(
             ops,
             names,
             labels,
-            fits,
+            index,
+            known,
             work,
         );
         match v {

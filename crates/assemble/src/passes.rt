@@ -2,7 +2,7 @@
 ghost use mathlib.Core.Path.{_≡_};
 ghost use mathlib.Core.List.{[], _∷_};
 ghost use Prim.Native.Nat.{_≤_};
-ghost use lib.ListN.{length, take};
+ghost use lib.ListN.{length};
 ghost use Rattle.answers.specs.Report.{cleared};
 ghost use Rattle.answers.specs.Outcome.{Ended};
 ghost use Rattle.limits.specs.Limits.{textLimit};
@@ -17,6 +17,7 @@ use crate::answer::AssembleAnswer;
 use crate::body::Bytes;
 use hasm_labels::label_entry::Slot;
 use hasm_labels::names_pass::Names;
+use hasm_labels::names_pass::Taken;
 use hasm_read::lines::Checked;
 use slices::clearing::clear_labels;
 use slices::write::clear;
@@ -26,18 +27,7 @@ fn name_space() -> [u32; sheet::name_index::NAME_INDEX] {
     [0; sheet::name_index::NAME_INDEX]
 }
 
-// The labels that are held, where all of them fit.
-fn held_labels(labels: &[Slot], count: usize) -> &[Slot]
-    ensures { λ r. ⌜ (count ≤ length (now (labels .entry)) → now r ≡ take count (now (labels .entry))) ⌝ }
-{
-    if count <= labels.len() {
-        return &labels[0..count];
-    }
-    labels
-}
-
-// Writes the instructions of a text whose lines and names are good, and measures them. `count` labels are taken; the texts'
-// index goes to `ids`.
+// Writes the instructions of a text whose lines and names are good, and measures them. The texts' index goes to `ids`.
 fn put_indexed(
     ids: &mut [u32],
     sheet: &[u8],
@@ -47,20 +37,17 @@ fn put_indexed(
     bytes: &[u8],
     ends: &[u32],
     text: &[u8],
-    count: usize,
+    taken: Taken,
     labels: &[Slot],
     out: &mut [u8],
 ) -> AssembleAnswer
     requires { ⌜ IdSpace (now ids) (now ends) × (length (now text) ≤ textLimit) × NamesIndexed (now sheet) (now ops) (now names) ⌝ }
-    requires { ⌜ NamesGood (now sheet) (now types) (now ops) (now text) count (now labels) × ((rest : Assembled) → unlessBadLine 1 (linesOf (now text)) rest ≡ rest) ⌝ }
+    requires { ⌜ NamesGood (now sheet) (now types) (now ops) (now text) taken (now labels) × ((rest : Assembled) → unlessBadLine 1 (linesOf (now text)) rest ≡ rest) ⌝ }
     ensures { λ r. ⌜ Ended (textOutcome (contextFrom (now (sheet .entry)) (now (types .entry)) (now (ops .entry)) (now (bytes .entry)) (now (ends .entry))) (now (text .entry))) (now (out .entry)) (length (now (labels .entry)) ∷ []) (now (out .exit)) (assembleReport r) ⌝ }
     ensures { λ _. ⌜ TextsIndexed (now (bytes .entry)) (now (ends .entry)) (now (ids .exit)) ⌝ }
 {
     strings::text_index::index_texts(bytes, ends, ids);
-    let mut work = [0u8; limits::LINE_LIMIT];
-    let fits = count <= labels.len();
-    let held = held_labels(labels, count);
-    let b = crate::body::put_instructions(
+    let b = crate::listed::put_labelled(
         bytes,
         ends,
         ids,
@@ -69,14 +56,19 @@ fn put_indexed(
         types,
         ops,
         names,
-        held,
-        fits,
-        &mut work,
+        labels,
+        taken,
         out,
     );
     match b {
         Bytes::Written(k) => {
-            let m = operation::ending::measure(k, limits::BODY_LIMIT, count, labels.len(), out);
+            let m = operation::ending::measure(
+                k,
+                limits::BODY_LIMIT,
+                taken.count,
+                labels.len(),
+                out,
+            );
             crate::answer::measured_answer(m, k)
         }
         Bytes::Refused(x) => {
@@ -86,7 +78,7 @@ fn put_indexed(
     }
 }
 
-// Reads the names of a text whose lines are good, which stores the labels that fit, then writes its instructions.
+// Reads the names of a text whose lines are good, which stores the long labels that fit, then writes its instructions.
 fn name_and_put(
     ids: &mut [u32],
     sheet: &[u8],
@@ -106,13 +98,9 @@ fn name_and_put(
 {
     let mut names = name_space();
     sheet::name_index::index_names(sheet, ops, &mut names);
-    let n = hasm_labels::names_pass::read_names(text, sheet, types, ops, &names, labels, b"");
+    let n = hasm_labels::names_pass::read_names(text, sheet, types, ops, &names, labels, b"L");
     match n {
-        Names::Good {
-            count,
-            has: _,
-            offset: _,
-        } => {
+        Names::Good(taken) => {
             let a = put_indexed(
                 ids,
                 sheet,
@@ -122,7 +110,7 @@ fn name_and_put(
                 bytes,
                 ends,
                 text,
-                count,
+                taken,
                 labels,
                 out,
             );

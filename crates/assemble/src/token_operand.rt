@@ -14,6 +14,7 @@ ghost use Rattle.spec_inputs.specs.Context.{contextFrom};
 ghost use Rattle.hasm_tokens.specs.Values.{tokenAnswer};
 use answers::refusal::OperandFault;
 use hasm_labels::label_entry::Slot;
+use hasm_labels::label_target::Known;
 use hasm_labels::label_target::label_offset;
 use hasm_tokens::address_token::Target;
 use hasm_tokens::address_token::distance_to;
@@ -73,16 +74,17 @@ fn target_distance(
     ops: &[[usize; 4]; 256],
     names: &[u32],
     labels: &[Slot],
-    fits: bool,
+    index: &[u32],
+    known: Known,
 ) -> Value
-    requires { ⌜ (offset < 2 ^ 32) × LabelsKnown (now text) (now sheet) (now types) (now ops) (now names) (now labels) fits ⌝ }
+    requires { ⌜ (offset < 2 ^ 32) × LabelsKnown (now text) (now sheet) (now types) (now ops) (now names) (now labels) (now index) known ⌝ }
     ensures { λ r. ⌜ ((bytes ends : List ℕ) → r ≡ tokenAnswer (distanceTo width offset (targetIn (labelsOf (contextFrom (now (sheet .entry)) (now (types .entry)) (now (ops .entry)) bytes ends) (now (text .entry))) (now (t .entry))))) ⌝ }
 {
     let target = target_in(t);
     match target {
         Target::Offset(n) => distance_to(width, offset as u64, n),
         Target::Label => {
-            let label = label_offset(text, sheet, types, ops, names, labels, fits, t);
+            let label = label_offset(text, sheet, types, ops, names, labels, index, known, t);
             label_distance(width, offset, label)
         }
         Target::Bad => Value::Refused(OperandFault::Address),
@@ -103,11 +105,12 @@ pub(crate) fn operand_value(
     ops: &[[usize; 4]; 256],
     names: &[u32],
     labels: &[Slot],
-    fits: bool,
+    index: &[u32],
+    known: Known,
     work: &mut [u8],
 ) -> Value
     requires { ⌜ TextsIndexed (now bytes) (now ends) (now ids) × (length (now t) ≤ length (now work)) ⌝ }
-    requires { ⌜ (offset < 2 ^ 32) × LabelsKnown (now text) (now sheet) (now types) (now ops) (now names) (now labels) fits ⌝ }
+    requires { ⌜ (offset < 2 ^ 32) × LabelsKnown (now text) (now sheet) (now types) (now ops) (now names) (now labels) (now index) known ⌝ }
     ensures { λ r. ⌜ r ≡ tokenAnswer (tokenValue (now (bytes .entry)) (now (ends .entry)) (labelsOf (contextFrom (now (sheet .entry)) (now (types .entry)) (now (ops .entry)) (now (bytes .entry)) (now (ends .entry))) (now (text .entry))) offset code (now (t .entry))) ⌝ }
 {
     let family = sheet::operand_types::family(code);
@@ -123,7 +126,8 @@ pub(crate) fn operand_value(
             ops,
             names,
             labels,
-            fits,
+            index,
+            known,
         );
     }
     direct_value(t, family, bytes, ends, ids, work)

@@ -10,12 +10,14 @@ use lib.Seq.{take-all, take-suc-set, take-append-le, set-out, drop-set-lt, drop-
 use Rattle.lists.specs.Choice.{pick}
 use Rattle.lists.specs.Scan.{same, part}
 use Rattle.lists.specs.Found.Found.{found, missing}
-use Rattle.lists.proofs.Tests.{by-leb, true-not-false}
+use Rattle.lists.proofs.Tests.{by-test, by-leb, true-not-false}
 use Rattle.spec_hasm.specs.Assemble.{LabelLine, LabelAt, holding, labelOffset}
 use Rattle.hasm_labels.specs.Slots.{labelIn, labelsIn}
+use Rattle.hasm_labels.specs.LongLabels.{isLong, longOf}
 use Rattle.hasm_labels.specs.Holding.{Waits, Noted, Held}
 use Rattle.hasm_labels.specs.declared.hold_label.Progress.{Progress}
 use Rattle.hasm_labels.proofs.LabelLaws.{offset-more, labels-more}
+use Rattle.hasm_labels.proofs.LongLaws.{long-more, long-same}
 
 -- no label waits
 holding-none : (text : List ℕ) (p : Progress) (w : List LabelLine) → Waits text p w → p .waits ≡ false → holding w (p .offset) [] ≡ []
@@ -29,6 +31,7 @@ held-none text t slots p e =
       noted = λ slots₀ w u labels h. rw (holding-none text p w u e, append-nil labels) h;
       offset = refl;
       count = omega arith;
+      kept = omega arith;
       place = λ n a b. b;
     }
 
@@ -62,37 +65,63 @@ kept-more : (slots slots₀ : List (List ℕ)) (slot : List ℕ) (k : ℕ) → d
 kept-more slots slots₀ slot k h =
     drop-set-lt (k + 1) slots k slot (omega arith) ∙ sym (drop-drop 1 k slots) ∙ ap (drop 1) h ∙ drop-drop 1 k slots₀
 
--- a label waits: it is stored behind the others, and p′ counts it
-module _ (text t : List ℕ) (slots slots′ : List (List ℕ)) (p p′ : Progress) (w : p .waits ≡ true)
-    (s : slots′ ≡ set slots (p .count) (p .start ∷ p .size ∷ p .offset ∷ [])) (c : p′ .count ≡ p .count + 1) where
+-- a label waits: it is stored behind the others, if it is long, and p′ counts it
+module _ (text t : List ℕ) (slots slots′ : List (List ℕ)) (p p′ : Progress) (w : p .waits ≡ true) where
   abbrev own : List ℕ
   own = p .start ∷ p .size ∷ p .offset ∷ []
 
-  one-more : (slots₀ : List (List ℕ)) (waiting : List LabelLine) → Waits text p waiting → (labels : List LabelAt) → Noted text t slots₀ labels p slots
-      → labelOffset (labels ++ (taken text p ∷ [])) t ≡ pick (p′ .has) (found (p′ .place)) missing → Noted text t slots₀ (labels ++ holding waiting (p .offset) []) p′ slots′
-  one-more slots₀ waiting u labels h l =
-      rw (holding-one text p waiting u w)
-      (record {
-        counted = rw (c, length-append labels (taken text p ∷ []), h .counted);
-        last = l;
-        stored = rw (c, s, add-one (p .count)) (stored-more text slots labels own (p .count) (h .counted) (h .stored));
-        kept = rw (c, s) (kept-more slots slots₀ own (p .count) (h .kept));
-      })
+  abbrev ownText : List ℕ
+  ownText = part text (p .start) (p .size)
 
-  pub held-same : same (part text (p .start) (p .size)) t ≡ true → p′ .has ≡ true → p′ .place ≡ p .offset → p′ .offset ≡ p .offset → Held text t slots p slots′ p′
-  held-same e f g o =
-      record {
-        noted = λ slots₀ waiting u labels h. one-more slots₀ waiting u labels h (offset-more labels (taken text p) t ∙ rw (e, f, g));
-        offset = o;
-        count = omega (arith, c);
-        place = λ n a b. rw g a;
-      }
+  module _ (k : p′ .kept ≡ pick (isLong ownText) (p .kept + 1) (p .kept)) (s : slots′ ≡ pick (isLong ownText) (set slots (p .kept) own) slots) (c : p′ .count ≡ p .count + 1) where
+    at-most : p′ .kept ≤ p .kept + 1
+    at-most = by-test (isLong ownText) (λ e. omega (arith, rw e at k)) (λ e. omega (arith, rw e at k))
 
-  pub held-other : same (part text (p .start) (p .size)) t ≡ false → p′ .has ≡ p .has → p′ .place ≡ p .place → p′ .offset ≡ p .offset → Held text t slots p slots′ p′
-  held-other e f g o =
-      record {
-        noted = λ slots₀ waiting u labels h. one-more slots₀ waiting u labels h (offset-more labels (taken text p) t ∙ rw (e, f, g) (h .last));
-        offset = o;
-        count = omega (arith, c);
-        place = λ n a b. rw g b;
-      }
+    one-more : (slots₀ : List (List ℕ)) (waiting : List LabelLine) → Waits text p waiting → (labels : List LabelAt) → Noted text t slots₀ labels p slots
+        → labelOffset (labels ++ (taken text p ∷ [])) t ≡ pick (p′ .has) (found (p′ .place)) missing → Noted text t slots₀ (labels ++ holding waiting (p .offset) []) p′ slots′
+    one-more slots₀ waiting u labels h l =
+        let counted = c ∙ ap (λ (n : ℕ). n + 1) (h .counted) ∙ sym (length-append labels (taken text p ∷ [])) in
+        rw (holding-one text p waiting u w)
+        (by-test (isLong ownText)
+        (λ e.
+        let more = long-more (taken text p) e labels in
+        let kept = rw e at k in
+        let stored = rw e at s in
+        record {
+          counted = counted;
+          last = l;
+          long = rw (more, length-append (longOf labels) (taken text p ∷ []), kept, h .long);
+          stored = rw (more, kept, stored, add-one (p .kept)) (stored-more text slots (longOf labels) own (p .kept) (h .long) (h .stored));
+          behind = rw (kept, stored) (kept-more slots slots₀ own (p .kept) (h .behind));
+        })
+        (λ e.
+        let more = long-same (taken text p) e labels in
+        let kept = rw e at k in
+        let stored = rw e at s in
+        record {
+          counted = counted;
+          last = l;
+          long = rw (more, kept) (h .long);
+          stored = rw (more, kept, stored) (h .stored);
+          behind = rw (kept, stored) (h .behind);
+        }))
+
+    pub held-same : same ownText t ≡ true → p′ .has ≡ true → p′ .place ≡ p .offset → p′ .offset ≡ p .offset → Held text t slots p slots′ p′
+    held-same e f g o =
+        record {
+          noted = λ slots₀ waiting u labels h. one-more slots₀ waiting u labels h (offset-more labels (taken text p) t ∙ rw (e, f, g));
+          offset = o;
+          count = omega (arith, c);
+          kept = at-most;
+          place = λ n a b. rw g a;
+        }
+
+    pub held-other : same ownText t ≡ false → p′ .has ≡ p .has → p′ .place ≡ p .place → p′ .offset ≡ p .offset → Held text t slots p slots′ p′
+    held-other e f g o =
+        record {
+          noted = λ slots₀ waiting u labels h. one-more slots₀ waiting u labels h (offset-more labels (taken text p) t ∙ rw (e, f, g) (h .last));
+          offset = o;
+          count = omega (arith, c);
+          kept = at-most;
+          place = λ n a b. rw g b;
+        }

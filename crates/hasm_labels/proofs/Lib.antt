@@ -1,5 +1,7 @@
+pub mod LongLaws
 pub mod HoldLaws
 pub mod LabelLaws
+pub mod LabelWalk
 pub mod NameLaws
 pub mod CodeSteps
 pub mod LineTurns

@@ -30,10 +30,10 @@ use Rattle.hasm_read.specs.declared.statement.Statement.the-variants.{Nothing, 
 
 -- the progress behind an instruction of k bytes, and behind a label
 abbrev passed : Progress → ℕ → Progress
-passed q k = record { waits = false; start = 0; size = 0; count = q .count; offset = q .offset + k; has = q .has; place = q .place }
+passed q k = record { waits = false; start = 0; size = 0; count = q .count; kept = q .kept; offset = q .offset + k; has = q .has; place = q .place }
 
 abbrev labelRead : Progress → ℕ → ℕ → Progress
-labelRead p s m = record { waits = true; start = s; size = m; count = p .count; offset = p .offset; has = p .has; place = p .place }
+labelRead p s m = record { waits = true; start = s; size = m; count = p .count; kept = p .kept; offset = p .offset; has = p .has; place = p .place }
 
 -- an instruction takes the label that waits
 pub code-passed : (e : Context) (n : ℕ) (s text t : List ℕ) (slots : List (List ℕ)) (p : Progress) (slots′ : List (List ℕ)) (q : Progress) (k : ℕ) → Sized e n s k → Held text t slots p slots′ q
@@ -46,11 +46,12 @@ code-passed e n s text t slots p slots′ q k z h =
       start = refl;
       size = refl;
       count = h .count;
+      kept = h .kept;
       offset = ap (λ (i : ℕ). i + k) (h .offset);
       place = h .place;
       noted = λ slots₀ waiting w labels v.
           let u = h .noted slots₀ waiting w labels v in
-          record { counted = u .counted; last = u .last; stored = u .stored; kept = u .kept };
+          record { counted = u .counted; last = u .last; long = u .long; stored = u .stored; behind = u .behind };
     }
 
 -- what a line was read as
@@ -103,6 +104,7 @@ module _ (e : Context) (text t : List ℕ) (slots₀ : List (List ℕ)) (at n en
         start = g .start;
         size = g .size;
         count = omega (arith, g .count, k);
+        kept = omega (arith, g .kept, k);
         offset = omega (arith, g .offset, k);
         place = omega (arith, g .place, k);
         waiting = g .waiting;
@@ -125,6 +127,7 @@ module _ (e : Context) (text t : List ℕ) (slots₀ : List (List ℕ)) (at n en
         start = omega (arith, o, k);
         size = omega (arith, o);
         count = omega (arith, g .count, k);
+        kept = omega (arith, g .kept, k);
         offset = omega (arith, g .offset, k);
         place = omega (arith, g .place, k);
         waiting = record { line = n; text = part text (at + a) i } ∷ g .waiting;
@@ -132,7 +135,7 @@ module _ (e : Context) (text t : List ℕ) (slots₀ : List (List ℕ)) (at n en
         names = λ rest. g .names rest ∙ ap (λ (c : List Code). unlessBadName e c rest) cs;
         taken = g .taken;
         labels = g .labels ∙ ap (λ (c : List Code). g .taken ++ labelsFrom e (p .offset) c) cs;
-        noted = let u = g .noted in record { counted = u .counted; last = u .last; stored = u .stored; kept = u .kept };
+        noted = let u = g .noted in record { counted = u .counted; last = u .last; long = u .long; stored = u .stored; behind = u .behind };
       }
 
   -- an instruction s
@@ -161,6 +164,7 @@ module _ (e : Context) (text t : List ℕ) (slots₀ : List (List ℕ)) (at n en
           start = omega (arith, q .start);
           size = omega (arith, q .size);
           count = omega (arith, g .count, q .count, k);
+          kept = omega (arith, g .kept, q .kept, k);
           offset = omega (arith, g .offset, q .offset, q .sized .short, k);
           place = q .place (65 * (end + 1)) (omega (arith, g .offset, k)) (omega (arith, g .place, k));
           waiting = [];

@@ -16,10 +16,12 @@ use Rattle.hasm_labels.specs.Going.{LineAt, Going}
 use Rattle.hasm_labels.specs.NamesRead.{AllNamed}
 use Rattle.hasm_labels.specs.declared.hold_label.Progress.{Progress}
 use Rattle.hasm_labels.proofs.CodeSteps.{codes-none}
+use Rattle.hasm_labels.specs.LongLabels.{longOf}
 use Rattle.hasm_labels.proofs.LabelLaws.{offset-none, labels-none}
+use Rattle.hasm_labels.proofs.LongLaws.{long-none}
 
 abbrev atStart : Progress
-atStart = record { waits = false; start = 0; size = 0; count = 0; offset = 0; has = false; place = 0 }
+atStart = record { waits = false; start = 0; size = 0; count = 0; kept = 0; offset = 0; has = false; place = 0 }
 
 pub going-start : (e : Context) (text t : List ℕ) (slots : List (List ℕ)) → Going e text t slots 0 1 atStart slots
 going-start e text t slots =
@@ -29,6 +31,7 @@ going-start e text t slots =
       start = omega arith;
       size = omega arith;
       count = omega arith;
+      kept = omega arith;
       offset = omega arith;
       place = omega arith;
       waiting = [];
@@ -36,7 +39,13 @@ going-start e text t slots =
       names = λ rest. refl;
       taken = [];
       labels = refl;
-      noted = record { counted = refl; last = offset-none t; stored = labels-none text slots ∙ sym (take-nil (length slots)); kept = refl };
+      noted = record {
+        counted = refl;
+        last = offset-none t;
+        long = sym (ap length long-none);
+        stored = labels-none text slots ∙ sym (take-nil (length slots)) ∙ ap (take (length slots)) (sym long-none);
+        behind = refl;
+      };
     }
 
 -- the next line
@@ -53,6 +62,7 @@ going-line {text = text} {at = at} end g h k s f =
         start = omega (arith, g .start);
         size = omega (arith, g .size);
         count = omega (arith, g .count);
+        kept = omega (arith, g .kept);
         offset = omega (arith, g .offset);
       };
     }
@@ -66,7 +76,7 @@ unfolding labelsFrom
 no-labels e at = refl
 
 pub going-end : (e : Context) (text t : List ℕ) (slots₀ : List (List ℕ)) (at n : ℕ) (p : Progress) (slots : List (List ℕ)) → Going e text t slots₀ at n p slots → length text ≤ at → length text ≤ textLimit
-    → AllNamed e text t slots₀ slots (p .count) (p .has) (p .place)
+    → AllNamed e text t slots₀ slots (record { count = p .count; kept = p .kept; has = p .has; place = p .place })
 going-end e text t slots₀ at n p slots g h s =
     let c = codes-none e n (g .waiting) text at h in
     let l : labelsFrom e 0 (codesOf e text) ≡ g .taken =
@@ -77,6 +87,7 @@ going-end e text t slots₀ at n p slots g h s =
       counted = g .noted .counted ∙ ap length (sym l);
       place = ap (λ (ls : List LabelAt). labelOffset ls t) l ∙ g .noted .last;
       small = omega (arith, g .place, g .near);
-      stored = g .noted .stored ∙ ap (take (length slots)) (sym l);
-      kept = g .noted .kept;
+      long = g .noted .long ∙ ap (λ (ls : List LabelAt). length (longOf ls)) (sym l);
+      stored = g .noted .stored ∙ ap (λ (ls : List LabelAt). take (length slots) (longOf ls)) (sym l);
+      behind = g .noted .behind;
     }

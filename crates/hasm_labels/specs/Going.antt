@@ -25,6 +25,7 @@ pub record Passed (e : Context) (n : ℕ) (s text t : List ℕ) (slots : List (L
   pub start : p′ .start ≡ 0
   pub size : p′ .size ≡ 0
   pub count : p′ .count ≤ p .count + 1
+  pub kept : p′ .kept ≤ p .kept + 1
   pub offset : p′ .offset ≡ p .offset + bytes
   pub place : (m : ℕ) → p .offset ≤ m → p .place ≤ m → p′ .place ≤ m
   pub noted : NotedMore text t slots p slots′ p′
@@ -51,6 +52,7 @@ pub record Going (e : Context) (text t : List ℕ) (slots₀ : List (List ℕ)) 
   pub start : p .start ≤ textLimit
   pub size : p .size ≤ textLimit
   pub count : p .count ≤ at
+  pub kept : p .kept ≤ at
   pub offset : p .offset ≤ 65 * at
   pub place : p .place ≤ 65 * at
   pub waiting : List LabelLine

@@ -9,6 +9,7 @@ use Rattle.lists.specs.Scan.{part}
 use Rattle.lists.specs.Found.Found.{found, missing}
 use Rattle.spec_hasm.specs.Assemble.{LabelLine, LabelAt, holding, labelOffset}
 use Rattle.hasm_labels.specs.Slots.{labelsIn}
+use Rattle.hasm_labels.specs.LongLabels.{longOf}
 use Rattle.hasm_labels.specs.declared.hold_label.Progress.{Progress}
 
 -- the label lines that wait for an instruction, the nearest first, of which the code knows only that one's text
@@ -21,15 +22,17 @@ pub record Small (p : Progress) : Type 0 where
   pub start : p .start < 4294967296
   pub size : p .size < 4294967296
   pub count : p .count < 4294967295
+  pub kept : p .kept < 4294967295
   pub offset : p .offset < 4294967231
 
--- the labels taken so far: how many, the offset of the last one of text t, and the labels themselves, as many as fit; the slots
+-- the labels taken so far: how many, the offset of the last one of text t, and the long ones themselves, as many as fit; the slots
 -- behind them, which were `slots₀`, are as they were
 pub record Noted (text t : List ℕ) (slots₀ : List (List ℕ)) (labels : List LabelAt) (p : Progress) (slots : List (List ℕ)) : Type 0 where
   pub counted : p .count ≡ length labels
   pub last : labelOffset labels t ≡ pick (p .has) (found (p .place)) missing
-  pub stored : labelsIn text (take (p .count) slots) ≡ take (length slots) labels
-  pub kept : drop (p .count) slots ≡ drop (p .count) slots₀
+  pub long : p .kept ≡ length (longOf labels)
+  pub stored : labelsIn text (take (p .kept) slots) ≡ take (length slots) (longOf labels)
+  pub behind : drop (p .kept) slots ≡ drop (p .kept) slots₀
 
 -- with label lines that wait, the nearest one's label is taken, at the offset where p stands
 abbrev pub NotedMore : List ℕ → List ℕ → List (List ℕ) → Progress → List (List ℕ) → Progress → Type 0
@@ -42,4 +45,5 @@ pub record Held (text t : List ℕ) (slots : List (List ℕ)) (p : Progress) (sl
   pub noted : NotedMore text t slots p slots′ p′
   pub offset : p′ .offset ≡ p .offset
   pub count : p′ .count ≤ p .count + 1
+  pub kept : p′ .kept ≤ p .kept + 1
   pub place : (n : ℕ) → p .offset ≤ n → p .place ≤ n → p′ .place ≤ n

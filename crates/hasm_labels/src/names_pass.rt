@@ -11,18 +11,22 @@ use crate::label_entry::Slot;
 use crate::take_line::Step;
 use answers::refusal::Refusal;
 
-// How many labels are taken, whether one has the text that was asked for, and the offset of the last one; or the first name
-// that the sheet does not have (4) or that has too few or too many operands (5).
+// The labels that instructions take: how many, and how many of them are long; whether one has the text that was asked for, and the
+// offset of the last one that has.
+pub struct Taken {
+    pub count: usize,
+    pub kept: usize,
+    pub has: bool,
+    pub place: usize,
+}
+
+// The labels; or the first name that the sheet does not have (4) or that has too few or too many operands (5).
 pub enum Names {
-    Good {
-        count: usize,
-        has: bool,
-        offset: usize,
-    },
+    Good(Taken),
     Refused(Refusal),
 }
 
-// Reads the names, stores the labels that fit and looks for the label t. A refusal clears the labels.
+// Reads the names, stores the long labels that fit and looks for the label t. A refusal clears the labels.
 pub fn read_names(
     text: &[u8],
     sheet: &[u8],
@@ -41,6 +45,7 @@ pub fn read_names(
         start: 0,
         size: 0,
         count: 0,
+        kept: 0,
         offset: 0,
         has: false,
         place: 0,
@@ -74,9 +79,10 @@ pub fn read_names(
         at = end + 1;
         n += 1;
     }
-    Names::Good {
+    Names::Good(Taken {
         count: p.count,
+        kept: p.kept,
         has: p.has,
-        offset: p.place,
-    }
+        place: p.place,
+    })
 }

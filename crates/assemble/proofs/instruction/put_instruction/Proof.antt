@@ -32,7 +32,7 @@ opcode-in-requires c κs = omega arith
 
 mul-row : tie.Need-mul-row
 mul-row c =
-    let a = c .before .before .before .before .before .before .before .before .before .before .before .before .before .before .args in
+    let a = c .before .before .before .before .before .before .before .before .before .before .before .before .before .before .before .args in
     let name = take (c .before .before .before .before .skip .result - 0) (a .s .now) in
     let o = c .before .opcode-in .ensures (findName (a .sheet .now) name 0 (a .ops .now)) (c .before .before .find-indexed .ensures) in
     let below = opcode-below (a .sheet .now) name (a .ops .now) (omega (arith, c .-rows .given)) in
@@ -40,7 +40,7 @@ mul-row c =
 
 element-copy-out-row : tie.Need-element-copy-out-row
 element-copy-out-row c =
-    let a = c .before .before .before .before .before .before .before .before .before .before .before .before .before .before .args in
+    let a = c .before .before .before .before .before .before .before .before .before .before .before .before .before .before .before .args in
     let name = take (c .before .before .before .before .skip .result - 0) (a .s .now) in
     let o = c .before .opcode-in .ensures (findName (a .sheet .now) name 0 (a .ops .now)) (c .before .before .find-indexed .ensures) in
     let below = opcode-below (a .sheet .now) name (a .ops .now) (omega (arith, c .-rows .given)) in
@@ -51,7 +51,7 @@ skip-requires-2 c κs = omega arith
 
 cast-put-byte : tie.Need-cast-put-byte
 cast-put-byte c =
-    let a = c .before .before .before .before .before .before .before .before .before .before .before .before .before .before .before .before .before .args in
+    let a = c .before .before .before .before .before .before .before .before .before .before .before .before .before .before .before .before .before .before .args in
     let name = take (c .before .before .before .before .before .before .before .skip .result - 0) (a .s .now) in
     let o = c .before .before .before .before .opcode-in .ensures (findName (a .sheet .now) name 0 (a .ops .now)) (c .before .before .before .before .before .find-indexed .ensures) in
     let below = opcode-below (a .sheet .now) name (a .ops .now) (omega (arith, c .before .before .before .-rows .given)) in
@@ -71,8 +71,8 @@ part-put-operands-end c = omega arith
 
 put-operands-requires : tie.Need-put-operands-requires
 put-operands-requires c κs =
-    let s = c .before .before .before .before .before .before .before .before .before .before .before .before .before .before .before .before .before .before .before .before .before .before .before .args .s .now in
-    let p = c .before .before .before .before .before .before .before .before .before .before .before .before .before .before .before .before .before .before .before .before .before .before .before .pre in
+    let s = c .before .before .before .before .before .before .before .before .before .before .before .before .before .before .before .before .before .before .before .before .before .before .before .before .args .s .now in
+    let p = c .before .before .before .before .before .before .before .before .before .before .before .before .before .before .before .before .before .before .before .before .before .before .before .before .pre in
     ((p .0 .0, part-short s s (c .before .before .before .before .before .before .before .skip2 .result) (length s) lineLimit refl (p .0 .1), p .0 .2), (omega (arith, p .1 .0), p .1 .1))
 
 enum-known-o : tie.Need-enum-known-o
@@ -81,8 +81,8 @@ enum-known-o c = omega arith
 instruction-length-requires : tie.Need-instruction-length-requires
 instruction-length-requires c κs = omega arith
 
-add-t49 : tie.Need-add-t49
-add-t49 c = record { fits = omega (arith, c .before .before .before .before .before .before .before .before .before .before .before .before .before .before .before .before .before .before .before .before .before .before .before .before .before .before .before .before .before .before .before .before .pre .1 .0, c .instruction-length .ensures .1) }
+add-t50 : tie.Need-add-t50
+add-t50 c = record { fits = omega (arith, c .before .before .before .before .before .before .before .before .before .before .before .before .before .before .before .before .before .before .before .before .before .before .before .before .before .before .before .before .before .before .before .before .before .pre .1 .0, c .instruction-length .ensures .1) }
 
 enum-known-o-2 : tie.Need-enum-known-o-2
 enum-known-o-2 c = omega arith
@@ -95,7 +95,7 @@ same-length-2 c = omega arith
 
 returns : tie.Need-returns
 returns c =
-    let a = c .before .before .before .before .before .before .before .before .before .before .before .before .before .before .before .before .before .before .before .before .before .before .before .before .before .before .before .before .before .before .before .before .args in
+    let a = c .before .before .before .before .before .before .before .before .before .before .before .before .before .before .before .before .before .before .before .before .before .before .before .before .before .before .before .before .before .before .before .before .before .args in
     let e = contextFrom (a .sheet .now) (a .types .now) (a .ops .now) (a .bytes .now) (a .ends .now) in
     let n = c .before .before .before .before .before .before .before .before .before .before .before .before .before .before .before .before .before .before .before .before .before .before .skip .result in
     let o = c .before .before .before .before .before .before .before .before .before .before .before .before .before .before .before .before .before .before .before .opcode-in .ensures (findName (a .sheet .now) (take (n - 0) (a .s .now)) 0 (a .ops .now)) (c .before .before .before .before .before .before .before .before .before .before .before .before .before .before .before .before .before .before .before .before .find-indexed .ensures) in
@@ -109,7 +109,7 @@ same-length-4 c = omega arith
 
 returns-2 : tie.Need-returns-2
 returns-2 c =
-    let a = c .before .before .before .before .before .before .before .before .before .before .before .before .before .before .before .before .before .before .before .before .before .before .before .before .before .before .before .before .before .before .before .args in
+    let a = c .before .before .before .before .before .before .before .before .before .before .before .before .before .before .before .before .before .before .before .before .before .before .before .before .before .before .before .before .before .before .before .before .args in
     let e = contextFrom (a .sheet .now) (a .types .now) (a .ops .now) (a .bytes .now) (a .ends .now) in
     let n = c .before .before .before .before .before .before .before .before .before .before .before .before .before .before .before .before .before .before .before .before .before .skip .result in
     let o = c .before .before .before .before .before .before .before .before .before .before .before .before .before .before .before .before .before .before .opcode-in .ensures (findName (a .sheet .now) (take (n - 0) (a .s .now)) 0 (a .ops .now)) (c .before .before .before .before .before .before .before .before .before .before .before .before .before .before .before .before .before .before .before .find-indexed .ensures) in
@@ -136,7 +136,7 @@ put-instruction-spec =
     put-operands-requires
     enum-known-o
     instruction-length-requires
-    add-t49
+    add-t50
     enum-known-o-2
     same-length
     same-length-2

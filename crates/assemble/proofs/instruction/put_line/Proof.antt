@@ -14,7 +14,7 @@ line-of-requires : tie.Need-line-of-requires
 line-of-requires c κs = omega arith
 
 read-statement-requires : tie.Need-read-statement-requires
-read-statement-requires c κs = let p = c .before .before .before .before .before .before .before .before .before .pre .1 in (p .1 .0 .0, rw (c .line-of .ensures) (p .0 .short))
+read-statement-requires c κs = let p = c .before .before .before .before .before .before .before .before .before .before .pre .1 in (p .1 .0 .0, rw (c .line-of .ensures) (p .0 .short))
 
 enum-told : tie.Need-enum-told
 enum-told c = omega arith
@@ -35,19 +35,19 @@ part-put-instruction-end : tie.Need-part-put-instruction-end
 part-put-instruction-end c = let z = was-code _ _ _ _ (rw (c .before .statement .given .1) at (c .before .before .before .read-statement .ensures [] [] [])) in omega (arith, z .2)
 
 put-instruction-requires : tie.Need-put-instruction-requires
-put-instruction-requires c κs = ((c .before .before .before .before .before .before .before .before .before .before .before .before .before .before .before .before .pre .0 .0, part-short _ _ (c .before .before .before .before .statement .given .0 .0) (c .before .before .before .before .statement .given .0 .1 .0) lineLimit (c .before .before .before .before .before .before .before .line-of .ensures) (c .before .before .before .before .before .before .before .before .before .before .before .before .before .before .before .before .pre .1 .0 .short), c .before .before .before .before .before .before .before .before .before .before .before .before .before .before .before .before .pre .0 .1), (c .before .before .before .before .before .before .before .before .before .before .before .before .before .before .before .before .pre .1 .0 .small, c .before .before .before .before .before .before .before .before .before .before .before .before .before .before .before .before .pre .1 .1))
+put-instruction-requires c κs = ((c .before .before .before .before .before .before .before .before .before .before .before .before .before .before .before .before .before .pre .0 .0, part-short _ _ (c .before .before .before .before .statement .given .0 .0) (c .before .before .before .before .statement .given .0 .1 .0) lineLimit (c .before .before .before .before .before .before .before .line-of .ensures) (c .before .before .before .before .before .before .before .before .before .before .before .before .before .before .before .before .before .pre .1 .0 .short), c .before .before .before .before .before .before .before .before .before .before .before .before .before .before .before .before .before .pre .0 .1), (c .before .before .before .before .before .before .before .before .before .before .before .before .before .before .before .before .before .pre .1 .0 .small, c .before .before .before .before .before .before .before .before .before .before .before .before .before .before .before .before .before .pre .1 .1))
 
 returns : tie.Need-returns
 returns c =
-    let a = c .before .before .before .before .before .before .before .before .before .before .before .before .args in
+    let a = c .before .before .before .before .before .before .before .before .before .before .before .before .before .args in
     let e = contextFrom (a .sheet .now) (a .types .now) (a .ops .now) (a .bytes .now) (a .ends .now) in
-    λ o n g. turn-nothing e (labelsOf e (a .text .now)) (a .text .now) (a .span .at) (a .span .end) (a .place) (c .before .before .before .before .before .before .before .before .before .before .before .before .pre .1 .0) _ (c .before .before .before .line-of .ensures) g (rw (c .enum-told .given .1) at (c .before .before .read-statement .ensures (a .types .now) (a .bytes .now) (a .ends .now)))
+    λ o n g. turn-nothing e (labelsOf e (a .text .now)) (a .text .now) (a .span .at) (a .span .end) (a .place) (c .before .before .before .before .before .before .before .before .before .before .before .before .before .pre .1 .0) _ (c .before .before .before .line-of .ensures) g (rw (c .enum-told .given .1) at (c .before .before .read-statement .ensures (a .types .now) (a .bytes .now) (a .ends .now)))
 
 returns-2 : tie.Need-returns-2
 returns-2 c =
-    let a = c .before .before .before .before .before .before .before .before .before .before .before .before .args in
+    let a = c .before .before .before .before .before .before .before .before .before .before .before .before .before .args in
     let e = contextFrom (a .sheet .now) (a .types .now) (a .ops .now) (a .bytes .now) (a .ends .now) in
-    λ o n g. turn-label e (labelsOf e (a .text .now)) (a .text .now) (a .span .at) (a .span .end) (a .place) (c .before .before .before .before .before .before .before .before .before .before .before .before .pre .1 .0) _ (c .before .before .before .line-of .ensures) g _ _ (rw (c .enum-told2 .given .1) at (c .before .before .read-statement .ensures (a .types .now) (a .bytes .now) (a .ends .now)))
+    λ o n g. turn-label e (labelsOf e (a .text .now)) (a .text .now) (a .span .at) (a .span .end) (a .place) (c .before .before .before .before .before .before .before .before .before .before .before .before .before .pre .1 .0) _ (c .before .before .before .line-of .ensures) g _ _ (rw (c .enum-told2 .given .1) at (c .before .before .read-statement .ensures (a .types .now) (a .bytes .now) (a .ends .now)))
 
 same-length : tie.Need-same-length
 same-length c = omega arith
@@ -57,9 +57,9 @@ same-length-2 c = omega arith
 
 returns-3 : tie.Need-returns-3
 returns-3 c =
-    let a = c .before .before .before .before .before .before .before .before .before .before .before .before .before .before .before .before .before .before .before .before .before .args in
+    let a = c .before .before .before .before .before .before .before .before .before .before .before .before .before .before .before .before .before .before .before .before .before .before .args in
     let e = contextFrom (a .sheet .now) (a .types .now) (a .ops .now) (a .bytes .now) (a .ends .now) in
-    λ o n g. turn-code e (labelsOf e (a .text .now)) (a .text .now) (a .span .at) (a .span .end) (a .place) (c .before .before .before .before .before .before .before .before .before .before .before .before .before .before .before .before .before .before .before .before .before .pre .1 .0) _ (c .before .before .before .before .before .before .before .before .before .before .before .before .line-of .ensures) g _ _ (rw (c .before .before .before .before .before .before .before .before .before .statement .given .1) at (c .before .before .before .before .before .before .before .before .before .before .before .read-statement .ensures (a .types .now) (a .bytes .now) (a .ends .now))) _ (c .before .before .before .before .put-instruction .result) (c .before .before .before .before .put-instruction .ensures)
+    λ o n g. turn-code e (labelsOf e (a .text .now)) (a .text .now) (a .span .at) (a .span .end) (a .place) (c .before .before .before .before .before .before .before .before .before .before .before .before .before .before .before .before .before .before .before .before .before .before .pre .1 .0) _ (c .before .before .before .before .before .before .before .before .before .before .before .before .line-of .ensures) g _ _ (rw (c .before .before .before .before .before .before .before .before .before .statement .given .1) at (c .before .before .before .before .before .before .before .before .before .before .before .read-statement .ensures (a .types .now) (a .bytes .now) (a .ends .now))) _ (c .before .before .before .before .put-instruction .result) (c .before .before .before .before .put-instruction .ensures)
 
 pub put-line-spec : {M : Type 1} → statement M
 put-line-spec =

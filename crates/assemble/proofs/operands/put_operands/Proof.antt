@@ -12,11 +12,11 @@ use Rattle.assemble.proofs.operands.put_operands.Statement.{statement}
 use Rattle.assemble.proofs.operands.put_operands.Tie as tie
 
 abbrev Inv-loop : tie.InvT-loop
-Inv-loop s bytes ends ids text sheet types ops names labels fits work₀ out₀ row offset n₀ p₀ i₀ work out n p i =
+Inv-loop s bytes ends ids text sheet types ops names labels index known work₀ out₀ row offset n₀ p₀ i₀ work out n p i =
     Going (contextFrom sheet types ops bytes ends) (labelsOf (contextFrom sheet types ops bytes ends) text) offset s row out₀ n₀ out n p i × (length work ≡ length work₀)
 
 abbrev μ-loop : tie.MeasureT-loop
-μ-loop s bytes ends ids text sheet types ops names labels fits work₀ out₀ row offset n₀ p₀ i₀ work out n p i =
+μ-loop s bytes ends ids text sheet types ops names labels index known work₀ out₀ row offset n₀ p₀ i₀ work out n p i =
     8 - i
 
 loop-holds : tie.Need-loop-holds Inv-loop μ-loop
@@ -50,7 +50,7 @@ trim-requires : tie.Need-trim-requires Inv-loop μ-loop
 trim-requires c κs = search needs
 
 operand-value-requires : tie.Need-operand-value-requires Inv-loop μ-loop
-operand-value-requires c κs = let a = c .before .before .before .before .before .before .before .before .before .before .before .before .before .before .before .before in ((a .pre .0 .0, omega (arith, a .pre .0 .1, c .before .before .before .before .before .before .loop .inv .1, token-short (a .args .s .now) _ (c .before .before .before .before .before .before .loop .p) _ (c .before .trim .ensures))), a .pre .1)
+operand-value-requires c κs = let a = c .before .before .before .before .before .before .before .before .before .before .before .before .before .before .before .before .before in ((a .pre .0 .0, omega (arith, a .pre .0 .1, c .before .before .before .before .before .before .loop .inv .1, token-short (a .args .s .now) _ (c .before .before .before .before .before .before .loop .p) _ (c .before .trim .ensures))), a .pre .1)
 
 enum-known-v : tie.Need-enum-known-v Inv-loop μ-loop
 enum-known-v c = search needs
@@ -61,8 +61,8 @@ put-value-requires c κs = search needs
 enum-known-v-2 : tie.Need-enum-known-v-2 Inv-loop μ-loop
 enum-known-v-2 c = search needs
 
-add-t39 : tie.Need-add-t39 Inv-loop μ-loop
-add-t39 c = search needs
+add-t40 : tie.Need-add-t40 Inv-loop μ-loop
+add-t40 c = search needs
 
 same-length-3 : tie.Need-same-length-3 Inv-loop μ-loop
 same-length-3 c = search needs
@@ -114,7 +114,7 @@ put-operands-spec =
     enum-known-v
     put-value-requires
     enum-known-v-2
-    add-t39
+    add-t40
     same-length-3
     same-length-4
     returns-2

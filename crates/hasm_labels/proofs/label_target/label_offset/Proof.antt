@@ -1,55 +1,52 @@
-use mathlib.Core.List.{List}
+use mathlib.Core.List.{[]}
 use mathlib.Core.Path.{ap, sym, _∙_}
+use Rattle.lists.proofs.Scans.{same-eq}
 use Rattle.slices.specs.Answers.{foundOf}
-use Rattle.spec_hasm.specs.Assemble.{LabelAt, labelOffset}
-use Rattle.hasm_labels.proofs.TargetLaws.{not-refused, label-found, label-missing}
+use Rattle.hasm_labels.specs.LongLabels.{bareLabel}
+use Rattle.hasm_labels.proofs.TargetLaws.{bare-at, listed-at}
 use borrow.Author.Needs.{needs}
 use Rattle.hasm_labels.proofs.label_target.label_offset.Statement.{statement}
 use Rattle.hasm_labels.proofs.label_target.label_offset.Tie as tie
 
-find-label-requires : tie.Need-find-label-requires
-find-label-requires c κs = search needs
+slice-aggregate-same-bytes : tie.Need-slice-aggregate-same-bytes
+slice-aggregate-same-bytes c = search needs
+
+same-bytes-requires : tie.Need-same-bytes-requires
+same-bytes-requires c κs = search needs
+
+bare-offset-requires : tie.Need-bare-offset-requires
+bare-offset-requires c κs = search needs
 
 returns : tie.Need-returns
-returns c = λ bytes ends. c .find-label .ensures ∙ ap (λ (ls : List LabelAt). foundOf (labelOffset ls (c .before .before .before .before .before .before .args .t .now))) (c .before .before .before .before .before .before .pre .1 .1 bytes ends .whole (c .before .if1 .taken))
+returns c =
+    let st = c .before .before .before .before .before .before .before .before .before in
+    let t = st .args .t .now in
+    let e = same-eq t bareLabel (sym (c .before .before .same-bytes .ensures) ∙ c .before .if1 .taken) in
+    λ bytes ends. c .bare-offset .ensures ∙ ap foundOf (sym (bare-at t (st .pre .1 .1 bytes ends) e))
 
-slice-aggregate-read-names : tie.Need-slice-aggregate-read-names
-slice-aggregate-read-names c = search needs
-
-read-names-requires : tie.Need-read-names-requires
-read-names-requires c κs = search needs
-
-enum-known-read : tie.Need-enum-known-read
-enum-known-read c = search needs
-
-enum-told : tie.Need-enum-told
-enum-told c = search needs
+listed-offset-requires : tie.Need-listed-offset-requires
+listed-offset-requires c κs = c .before .before .before .before .before .before .before .before .before .before .pre .1 .1 [] [] .chained
 
 returns-2 : tie.Need-returns-2
 returns-2 c =
-    let a = c .before .before .before .before .before .before .before .before .before .before .args in
-    λ bytes ends. not-refused _ (a .text .now) (rw (c .enum-told .given .1) at (c .before .before .before .read-names .ensures bytes ends) .0) (c .before .before .before .before .before .before .before .before .before .before .pre .1 .1 bytes ends .named)
+    let st = c .before .before .before .before .before .before .before .before .before .before .before in
+    λ bytes ends. c .listed-offset .ensures ∙ ap foundOf (listed-at (st .args .t .now) (st .pre .1 .1 bytes ends) (c .before .before .if2 .taken) (c .before .if3 .taken))
+
+read-again-requires : tie.Need-read-again-requires
+read-again-requires c κs = let p = c .before .before .before .before .before .before .before .before .before .pre in (p .0, (p .1 .0, λ bytes ends. p .1 .1 bytes ends .named))
 
 returns-3 : tie.Need-returns-3
-returns-3 c =
-    let a = c .before .before .before .before .before .before .before .before .before .before .before .before .args in
-    λ bytes ends. sym (ap foundOf (label-found _ (a .text .now) (a .t .now) _ _ _ _ _ (rw (c .before .before .read .given .1) at (c .before .before .before .before .before .read-names .ensures bytes ends)) (c .if2 .taken)))
-
-returns-4 : tie.Need-returns-4
-returns-4 c =
-    let a = c .before .before .before .before .before .before .before .before .before .before .before .before .args in
-    λ bytes ends. sym (ap foundOf (label-missing _ (a .text .now) (a .t .now) _ _ _ _ _ (rw (c .before .before .read .given .1) at (c .before .before .before .before .before .read-names .ensures bytes ends)) (c .if2 .left)))
+returns-3 c = search needs
 
 pub label-offset-spec : {M : Type 1} → statement M
 label-offset-spec =
     tie.close
     (tie.spec
-    find-label-requires
+    slice-aggregate-same-bytes
+    same-bytes-requires
+    bare-offset-requires
     returns
-    slice-aggregate-read-names
-    read-names-requires
-    enum-known-read
-    enum-told
+    listed-offset-requires
     returns-2
-    returns-3
-    returns-4)
+    read-again-requires
+    returns-3)

@@ -4,8 +4,8 @@ use Prim.Native.Nat.{ℕ}
 use lib.ListN.{take}
 use native.Mathlib.Omega.{arith}
 use borrow.Author.Needs.{needs}
-use Rattle.assemble.proofs.passes.held_labels.Statement.{statement}
-use Rattle.assemble.proofs.passes.held_labels.Tie as tie
+use Rattle.assemble.proofs.listed.held_labels.Statement.{statement}
+use Rattle.assemble.proofs.listed.held_labels.Tie as tie
 
 sub-result : tie.Need-sub-result
 sub-result c = search needs

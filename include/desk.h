@@ -77,7 +77,7 @@
 
 /* The same, label entries for a text of n bytes: a label line takes two bytes and its end, the instruction that takes it another
    two, the last of them without a line end. Where that is more than DESK_MAX_BODY the result is too long in any case, but with
-   all entries lent no label is searched in the text, which takes long. */
+   all entries lent no label is searched in the text. */
 #define DESK_ASSEMBLE_LABELS(n) ((DESK_LEAST(n, DESK_MAX_TEXT) + 1) / 5)
 
 /* desk_carry, bytes of out for a body of n bytes: an operand of one byte becomes one of four at most, and no other grows more. */
@@ -176,9 +176,8 @@ struct desk_answer desk_list_module(const uint8_t *sheet, size_t sheet_len, cons
 
 /* Assembles a text into a body. length counts the bytes, and a refusal's place is the text's line. One label entry of
    three words is needed for each label line that an instruction takes.
-   Stack 599 KiB, time 4.6 to 12 ms. Labels that are looked up (L alone or a number past 32 bits, which no listing has) take time
-   by the square of their number: 13,107 of them 0.2 to 1.8 s, a text of 1,048,576 bytes made of them 23 s, and far more where fewer
-   entries are lent than needed. */
+   Stack 1,019 KiB, time 4.6 to 12 ms. Of labels with a number past 32 bits, which no listing has, only the first 22,400 are found
+   quickly where fewer entries are lent than there are such labels; a text of 962,000 bytes made of more took two minutes. */
 struct desk_answer desk_assemble(const uint8_t *sheet, size_t sheet_len, const uint8_t *bytes, size_t bytes_len,
                                  const uint32_t *ends, size_t ends_len, const uint8_t *text, size_t text_len,
                                  uint8_t *out, size_t out_len, uint32_t (*labels)[3], size_t labels_len);

@@ -24,10 +24,11 @@ const FEW_INDEX: usize = 256;
 // An index of 71,680 labels. With its instruction a long label takes 15 bytes of the text, so there are fewer.
 const ALL_INDEX: usize = 81_920;
 
-// How many long labels are listed on the stack where too few entries are lent, and their index.
-const OWN_LABELS: usize = 24_576;
+// How many long labels are listed on the stack where too few entries are lent, and their index. What the stack has room for below
+// 1 MiB, beside the texts' index.
+const OWN_LABELS: usize = 22_400;
 
-const OWN_INDEX: usize = 28_672;
+const OWN_INDEX: usize = 25_600;
 
 // Space for the labels and their indexes. No contract, since the types say the lengths.
 fn few_index() -> [u32; FEW_INDEX] {

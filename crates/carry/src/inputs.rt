@@ -1,6 +1,7 @@
 // The inputs of carrying: their refusals in order, and both sheets' tables.
 ghost use mathlib.Core.Path.{_≡_};
 ghost use Rattle.answers.specs.Outcome.{Outcome};
+ghost use Rattle.spec_sheet.specs.Sheet.{noTypeRows, noInfoRows};
 ghost use Rattle.spec_carry.specs.Cases.{unlessCase};
 ghost use Rattle.spec_carry.specs.Carry.{tableCases};
 ghost use Rattle.carry.specs.Inputs.{onInputs, SheetsRead};
@@ -44,7 +45,7 @@ pub fn check_tables(body: &[u8], bytes: &[u8], ends: &[u32], bytes2: &[u8], ends
     Inputs::Good
 }
 
-// Reads both sheets into their tables.
+// Reads both sheets into their tables, which are empty.
 pub(crate) fn read_sheets(
     sheet: &[u8],
     sheet2: &[u8],
@@ -53,6 +54,7 @@ pub(crate) fn read_sheets(
     types2: &mut [[u8; 8]; 256],
     ops2: &mut [[usize; 4]; 256],
 ) -> Sheets
+    requires { ⌜ (now types ≡ noTypeRows) × (now ops ≡ noInfoRows) × (now types2 ≡ noTypeRows) × (now ops2 ≡ noInfoRows) ⌝ }
     ensures { λ r. ⌜ SheetsRead (now (sheet .entry)) (now (sheet2 .entry)) (now (types .exit)) (now (ops .exit)) (now (types2 .exit)) (now (ops2 .exit)) r ⌝ }
 {
     let first = sheet::opcode::read_sheet(sheet, types, ops);

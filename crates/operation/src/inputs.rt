@@ -1,5 +1,6 @@
 // The inputs that an operation takes beside its body or text: a string table and a sheet, with their refusals in order.
 ghost use mathlib.Core.Path.{_≡_};
+ghost use Rattle.spec_sheet.specs.Sheet.{noTypeRows, noInfoRows};
 ghost use Rattle.operation.specs.Read.{SheetGiven, Given};
 ghost use Rattle.operation.specs.Tables.{tableInputs};
 use answers::refusal::Refusal;
@@ -12,8 +13,9 @@ pub enum Inputs {
     Refused(Refusal),
 }
 
-// Reads the sheet into its tables; a malformed one, 1, leaves them zero.
+// Reads the sheet into empty tables; a malformed one, 1, leaves them zero.
 fn read_tables(sheet: &[u8], types: &mut [[u8; 8]; 256], ops: &mut [[usize; 4]; 256]) -> Inputs
+    requires { ⌜ (now types ≡ noTypeRows) × (now ops ≡ noInfoRows) ⌝ }
     ensures { λ r. ⌜ SheetGiven (now (sheet .entry)) (now (types .entry)) (now (ops .entry)) (now (types .exit)) (now (ops .exit)) r ⌝ }
 {
     let s = sheet::opcode::read_sheet(sheet, types, ops);
@@ -37,7 +39,8 @@ pub fn table_inputs(last: usize, bytes: &[u8], ends: &[u32]) -> Inputs
     }
 }
 
-// Looks at the string table, 18 and 17, which leave the tables as they were; then reads the sheet into its tables.
+// Looks at the string table, 18 and 17, which leave the tables as they were; then reads the sheet into the tables,
+// which are empty.
 pub fn read_inputs(
     sheet: &[u8],
     bytes: &[u8],
@@ -45,6 +48,7 @@ pub fn read_inputs(
     types: &mut [[u8; 8]; 256],
     ops: &mut [[usize; 4]; 256],
 ) -> Inputs
+    requires { ⌜ (now types ≡ noTypeRows) × (now ops ≡ noInfoRows) ⌝ }
     ensures { λ r. ⌜ Given (now (sheet .entry)) (now (bytes .entry)) (now (ends .entry)) (now (types .entry)) (now (ops .entry)) (now (types .exit)) (now (ops .exit)) r ⌝ }
 {
     let i = table_inputs(0, bytes, ends);

@@ -65,15 +65,15 @@ no-name k =
     (λ l. let z : length noInfoRows ≤ k = rw length-replicate l in ap (λ (r : List ℕ). getD r 3 0) (List·getD-eq-default noInfoRows [] z))
     (λ l. ap (λ (r : List ℕ). getD r 3 0) (getD-replicate 256 k (replicate 4 0) [] l))
 
-pub none-marked : (s filter : List ℕ) → length filter ≡ 64 → Filtered s filter noInfoRows
+pub none-marked : (s filter : List ℕ) → length filter ≡ 256 → Filtered s filter noInfoRows
 none-marked s filter e = record { size = e; set-for = λ k h. absurd (omega (arith, no-name k)) }
 
 -- one row more, and its mark
-module _ (s filter : List ℕ) (rows : List (List ℕ)) (h : ℕ) (small : h < 4096) (m : Filtered s filter rows) where
+module _ (s filter : List ℕ) (rows : List (List ℕ)) (h : ℕ) (small : h < 16384) (m : Filtered s filter rows) where
   inside : h / 64 < length filter
   inside = omega (arith, m .size)
 
-  size-kept : length (withHash filter h) ≡ 64
+  size-kept : length (withHash filter h) ≡ 256
   unfolding withHash
   size-kept = length-set filter (h / 64) _ ∙ m .size
 

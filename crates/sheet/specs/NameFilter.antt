@@ -9,11 +9,11 @@ use lib.ListN.{length, getD, set}
 use Rattle.spec_sheet.specs.Line.{nameSize, nameIn}
 use Rattle.hash_index.specs.Hash.{hashOf}
 
--- a number below 4096 by all bytes of a name
+-- a number below 16384 by all bytes of a name
 abbrev pub nameHash : List ℕ → ℕ
-nameHash name = hashOf name % 4096
+nameHash name = hashOf name % 16384
 
--- its 4096 bits are those of 64 numbers
+-- its 16384 bits are those of 256 numbers
 unfoldable pub inFilter : List ℕ → ℕ → Bool
 inFilter filter h = eqb (getD filter (h / 64) 0 / 2 ^ (h % 64) % 2) 1
 
@@ -22,5 +22,5 @@ withHash filter h = set filter (h / 64) (bitOr (getD filter (h / 64) 0) (2 ^ (h 
 
 -- the hash of every name in the rows of a table is in the filter
 pub record Filtered (s filter : List ℕ) (rows : List (List ℕ)) : Type 0 where
-  pub size : length filter ≡ 64
+  pub size : length filter ≡ 256
   pub set-for : (k : ℕ) → 0 < nameSize (getD rows k []) → inFilter filter (nameHash (nameIn s (getD rows k []))) ≡ true

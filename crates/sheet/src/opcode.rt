@@ -29,7 +29,7 @@ fn read_ops(
     ensures { λ r. ⌜ r ≡ opsOf (opsFrom count (now (s .entry)) from 0 []) ⌝ }
     ensures { λ _. ⌜ ((os : List Op) (b : ℕ) → opsFrom count (now (s .entry)) from 0 [] ≡ allRead os b → (now (types .exit) ≡ typeRows os) × (now (ops .exit) ≡ infoRows os)) ⌝ }
 {
-    let mut filter = [0u64; 64];
+    let mut filter = [0u64; 256];
     let mut at = from;
     let mut least: usize = 0;
     let mut i: usize = 0;
@@ -67,18 +67,13 @@ pub enum Sheet {
     Malformed(usize),
 }
 
-// The sheet that stands at `at`. A malformed one leaves both tables zero.
-pub fn sheet_at(
-    s: &[u8],
-    at: usize,
-    types: &mut [[u8; 8]; 256],
-    ops: &mut [[usize; 4]; 256],
-) -> Sheet
+// The sheet that stands at `at`, read into empty tables. A malformed one leaves both zero.
+fn sheet_into(s: &[u8], at: usize, types: &mut [[u8; 8]; 256], ops: &mut [[usize; 4]; 256]) -> Sheet
+    requires { ⌜ (now types ≡ noTypeRows) × (now ops ≡ noInfoRows) ⌝ }
     ensures { λ r. ⌜ r ≡ sheetAnswer (sheetAt (now (s .entry)) at) ⌝ }
     ensures { λ _. ⌜ now (types .exit) ≡ typesIn (sheetAt (now (s .entry)) at) ⌝ }
     ensures { λ _. ⌜ now (ops .exit) ≡ infosIn (sheetAt (now (s .entry)) at) ⌝ }
 {
-    reset(types, ops);
     let v = crate::scan::keyed_at(s, at, b"version=", 4294967295, b"\n");
     let Step::Next(version, a) = v else {
         return Sheet::Malformed(1);
@@ -106,13 +101,30 @@ pub fn sheet_at(
     }
 }
 
-// The sheet that is the whole text.
+// The same, read into tables of any content.
+pub fn sheet_at(
+    s: &[u8],
+    at: usize,
+    types: &mut [[u8; 8]; 256],
+    ops: &mut [[usize; 4]; 256],
+) -> Sheet
+    ensures { λ r. ⌜ r ≡ sheetAnswer (sheetAt (now (s .entry)) at) ⌝ }
+    ensures { λ _. ⌜ now (types .exit) ≡ typesIn (sheetAt (now (s .entry)) at) ⌝ }
+    ensures { λ _. ⌜ now (ops .exit) ≡ infosIn (sheetAt (now (s .entry)) at) ⌝ }
+{
+    reset(types, ops);
+    sheet_into(s, at, types, ops)
+}
+
+// The sheet that is the whole text, read into empty tables: callers have just made them, and clearing 10 KiB again would take as
+// long as reading a small sheet.
 pub fn read_sheet(s: &[u8], types: &mut [[u8; 8]; 256], ops: &mut [[usize; 4]; 256]) -> Sheet
+    requires { ⌜ (now types ≡ noTypeRows) × (now ops ≡ noInfoRows) ⌝ }
     ensures { λ r. ⌜ r ≡ sheetAnswer (sheetOf (now (s .entry))) ⌝ }
     ensures { λ _. ⌜ now (types .exit) ≡ typesIn (sheetOf (now (s .entry))) ⌝ }
     ensures { λ _. ⌜ now (ops .exit) ≡ infosIn (sheetOf (now (s .entry))) ⌝ }
 {
-    let r = sheet_at(s, 0, types, ops);
+    let r = sheet_into(s, 0, types, ops);
     match r {
         Sheet::Read(sheet) => {
             if sheet.end == s.len() {

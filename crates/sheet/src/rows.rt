@@ -74,7 +74,7 @@ fn store_op(
     info: [usize; 4],
     types: &mut [[u8; 8]; 256],
     ops: &mut [[usize; 4]; 256],
-    filter: &mut [u64; 64],
+    filter: &mut [u64; 256],
 ) -> bool
     requires { ⌜ (least ≤ 256) × (code < 256) × Filtered (now s) (now filter) (now ops) ⌝ }
     ensures { λ r. ⌜ r ≡ mayFollow (now (s .entry)) least (now (ops .entry)) code (nameIn (now (s .entry)) info) ⌝ }
@@ -104,7 +104,7 @@ pub fn store_line(
     least: usize,
     types: &mut [[u8; 8]; 256],
     ops: &mut [[usize; 4]; 256],
-    filter: &mut [u64; 64],
+    filter: &mut [u64; 256],
 ) -> Step
     requires { ⌜ (least ≤ 256) × Filtered (now s) (now filter) (now ops) ⌝ }
     ensures { λ r. ⌜ r ≡ turnOf (accepted (now (s .entry)) least (now (ops .entry)) (lineAt (now (s .entry)) at)) ⌝ }

@@ -7,8 +7,8 @@ use borrow.Author.Needs.{needs}
 use Rattle.sheet.proofs.opcode.read_sheet.Statement.{statement}
 use Rattle.sheet.proofs.opcode.read_sheet.Tie as tie
 
-sheet-at-requires : tie.Need-sheet-at-requires
-sheet-at-requires c κs = search needs
+sheet-into-requires : tie.Need-sheet-into-requires
+sheet-into-requires c κs = search needs
 
 enum-known-r : tie.Need-enum-known-r
 enum-known-r c = search needs
@@ -16,7 +16,7 @@ enum-known-r c = search needs
 returns : tie.Need-returns
 unfolding sheetOf
 returns c =
-    let w = c .before .before .before .before .before .sheet-at .ensures in
+    let w = c .before .before .before .before .before .sheet-into .ensures in
     let g = c .before .before .before .r .given .1 in
     rw (ends-here (length (c .before .before .before .before .before .before .before .before .before .args .s .now)) _ (sym (w .0) ∙ g) (c .if1 .taken)) (sym g ∙ w .0, w .1)
 
@@ -25,7 +25,7 @@ reset-requires c κs = search needs
 
 add-t9 : tie.Need-add-t9
 add-t9 c =
-    let w = c .before .before .before .before .before .before .before .before .before .sheet-at .ensures in
+    let w = c .before .before .before .before .before .before .before .before .before .sheet-into .ensures in
     omega (arith, few-lines (c .before .before .before .before .before .before .before .before .before .before .before .before .before .args .s .now) 0 (sym (w .0) ∙ c .before .before .before .before .before .before .before .r .given .1))
 
 enum-told : tie.Need-enum-told
@@ -34,7 +34,7 @@ enum-told c = search needs
 returns-2 : tie.Need-returns-2
 unfolding sheetOf
 returns-2 c =
-    let w = c .before .before .before .before .before .before .before .before .before .sheet-at .ensures in
+    let w = c .before .before .before .before .before .before .before .before .before .sheet-into .ensures in
     let t = c .before .reset .ensures in
     let e = goes-on (length (c .before .before .before .before .before .before .before .before .before .before .before .before .before .args .s .now)) _ (sym (w .0) ∙ c .before .before .before .before .before .before .before .r .given .1) (c .before .before .before .before .if1 .left) in
     let a = refused _ _ _ _ e (t .0) (t .1) in
@@ -43,10 +43,10 @@ returns-2 c =
 returns-3 : tie.Need-returns-3
 unfolding sheetOf
 returns-3 c =
-    let w = c .before .before .sheet-at .ensures in
+    let w = c .before .before .sheet-into .ensures in
     rw (stays (length (c .before .before .before .before .before .before .args .s .now)) _ (sym (w .0) ∙ c .enum-told .given .1)) w
 
 pub read-sheet-spec : {M : Type 1} → statement M
 read-sheet-spec =
     tie.close
-    (tie.spec sheet-at-requires enum-known-r returns reset-requires add-t9 enum-told returns-2 returns-3)
+    (tie.spec sheet-into-requires enum-known-r returns reset-requires add-t9 enum-told returns-2 returns-3)

@@ -12,15 +12,12 @@ use mathlib.Core.List.{List}
 use native.Mathlib.Omega.{arith}
 use mathlib.Core.Path.{_≡_, sym, _∙_}
 use borrow.Author.Needs.{needs}
-use Rattle.sheet.proofs.opcode.sheet_at.Statement.{statement}
-use Rattle.sheet.proofs.opcode.sheet_at.Tie as tie
+use Rattle.sheet.proofs.opcode.sheet_into.Statement.{statement}
+use Rattle.sheet.proofs.opcode.sheet_into.Tie as tie
 
 -- the three promises of an answer
 three : (x : SheetRead) (r : Sheet) (types infos : List (List ℕ)) → Answers x r types infos → (r ≡ sheetAnswer x) × ((types ≡ typesIn x) × (infos ≡ infosIn x))
 three x r types infos a = (a .answer, (a .type-rows, a .info-rows))
-
-reset-requires : tie.Need-reset-requires
-reset-requires c κs = search needs
 
 slice-aggregate-keyed-at : tie.Need-slice-aggregate-keyed-at
 slice-aggregate-keyed-at c = search needs
@@ -40,8 +37,8 @@ enum-told c = search needs
 returns : tie.Need-returns
 unfolding text
 returns c =
-    let a = c .before .before .before .before .before .before .before .before .before .args in
-    let t = c .before .before .before .before .before .reset .ensures in
+    let a = c .before .before .before .before .before .before .args in
+    let t = c .before .before .before .before .before .before .pre in
     three _ _ _ _ (refused _ 1 _ _ (no-version (a .s .now) (a .at) (was-off _ (sym (c .before .before .keyed-at .ensures) ∙ c .enum-told .given .1))) (t .0) (t .1))
 
 slice-aggregate-keyed-at-3 : tie.Need-slice-aggregate-keyed-at-3
@@ -62,8 +59,8 @@ enum-told-2 c = search needs
 returns-2 : tie.Need-returns-2
 unfolding text
 returns-2 c =
-    let a = c .before .before .before .before .before .before .before .before .before .before .before .before .before .before .before .args in
-    let t = c .before .before .before .before .before .before .before .before .before .before .before .reset .ensures in
+    let a = c .before .before .before .before .before .before .before .before .before .before .before .before .args in
+    let t = c .before .before .before .before .before .before .before .before .before .before .before .before .pre in
     let v = was-next _ (sym (c .before .before .before .before .before .before .before .before .keyed-at .ensures) ∙ c .before .before .before .before .before .before .v .given .1) in
     let n = was-off _ (sym (c .before .before .keyed-at2 .ensures) ∙ c .enum-told2 .given .1) in
     three _ _ _ _ (refused _ 2 _ _ (no-count (a .s .now) (a .at) _ _ v n) (t .0) (t .1))
@@ -71,14 +68,14 @@ returns-2 c =
 returns-3 : tie.Need-returns-3
 unfolding text
 returns-3 c =
-    let a = c .before .before .before .before .before .before .before .before .before .before .before .before .before .before .before .before .before .args in
-    let t = c .before .before .before .before .before .before .before .before .before .before .before .before .before .reset .ensures in
+    let a = c .before .before .before .before .before .before .before .before .before .before .before .before .before .before .args in
+    let t = c .before .before .before .before .before .before .before .before .before .before .before .before .before .before .pre in
     let v = was-next _ (sym (c .before .before .before .before .before .before .before .before .before .before .keyed-at .ensures) ∙ c .before .before .before .before .before .before .before .before .v .given .1) in
     let n = was-next _ (sym (c .before .before .before .before .keyed-at2 .ensures) ∙ c .before .before .n .given .1) in
     three _ _ _ _ (refused _ 2 _ _ (count-zero (a .s .now) (a .at) _ _ _ _ v n (c .if1 .taken)) (t .0) (t .1))
 
 read-ops-requires : tie.Need-read-ops-requires
-read-ops-requires c κs = c .before .before .before .before .before .before .before .before .before .before .before .before .before .before .before .reset .ensures
+read-ops-requires c κs = c .before .before .before .before .before .before .before .before .before .before .before .before .before .before .before .before .pre
 
 enum-known-o : tie.Need-enum-known-o
 enum-known-o c = search needs
@@ -86,13 +83,13 @@ enum-known-o c = search needs
 enum-known-o-2 : tie.Need-enum-known-o-2
 enum-known-o-2 c = search needs
 
-reset-requires-2 : tie.Need-reset-requires-2
-reset-requires-2 c κs = search needs
+reset-requires : tie.Need-reset-requires
+reset-requires c κs = search needs
 
-add-t40 : tie.Need-add-t40
+add-t37 : tie.Need-add-t37
 unfolding text
-add-t40 c =
-    let a = c .before .before .before .before .before .before .before .before .before .before .before .before .before .before .before .before .before .before .before .before .before .before .before .before .before .before .args in
+add-t37 c =
+    let a = c .before .before .before .before .before .before .before .before .before .before .before .before .before .before .before .before .before .before .before .before .before .before .before .args in
     let n = was-next _ (sym (c .before .before .before .before .before .before .before .before .before .before .before .before .before .keyed-at2 .ensures) ∙ c .before .before .before .before .before .before .before .before .before .before .before .n .given .1) in
     let m = keyed-bound (text "count=") 256 lineEnd (a .s .now) _ _ _ n in
     omega (arith, m, fault-inside _ _ _ _ (sym (c .before .before .before .before .before .before .read-ops .ensures .0) ∙ c .before .before .before .before .o2 .given .1))
@@ -100,7 +97,7 @@ add-t40 c =
 returns-4 : tie.Need-returns-4
 unfolding text
 returns-4 c =
-    let a = c .before .before .before .before .before .before .before .before .before .before .before .before .before .before .before .before .before .before .before .before .before .before .before .args in
+    let a = c .before .before .before .before .before .before .before .before .before .before .before .before .before .before .before .before .before .before .before .before .args in
     let v = was-next _ (sym (c .before .before .before .before .before .before .before .before .before .before .before .before .before .before .before .before .keyed-at .ensures) ∙ c .before .before .before .before .before .before .before .before .before .before .before .before .before .before .v .given .1) in
     let n = was-next _ (sym (c .before .before .before .before .before .before .before .before .before .before .keyed-at2 .ensures) ∙ c .before .before .before .before .before .before .before .before .n .given .1) in
     let e = with-ops (a .s .now) (a .at) _ _ _ _ v n (c .before .before .before .before .before .before .if1 .left) in
@@ -110,23 +107,23 @@ returns-4 c =
 returns-5 : tie.Need-returns-5
 unfolding text
 returns-5 c =
-    let a = c .before .before .before .before .before .before .before .before .before .before .before .before .before .before .before .before .before .before .before .before .before .before .before .before .before .before .args in
-    let t = c .reset2 .ensures in
+    let a = c .before .before .before .before .before .before .before .before .before .before .before .before .before .before .before .before .before .before .before .before .before .before .before .args in
+    let t = c .reset .ensures in
     let v = was-next _ (sym (c .before .before .before .before .before .before .before .before .before .before .before .before .before .before .before .before .before .before .before .keyed-at .ensures) ∙ c .before .before .before .before .before .before .before .before .before .before .before .before .before .before .before .before .before .v .given .1) in
     let n = was-next _ (sym (c .before .before .before .before .before .before .before .before .before .before .before .before .before .keyed-at2 .ensures) ∙ c .before .before .before .before .before .before .before .before .before .before .before .n .given .1) in
     let e = with-ops (a .s .now) (a .at) _ _ _ _ v n (c .before .before .before .before .before .before .before .before .before .if1 .left) in
     three _ _ _ _ (refused _ _ _ _ (e ∙ fault-line _ _ _ (sym (c .before .before .before .before .before .before .read-ops .ensures .0) ∙ c .before .before .before .before .o2 .given .1)) (t .0) (t .1))
 
-sub-t35 : tie.Need-sub-t35
+sub-t32 : tie.Need-sub-t32
 unfolding text
-sub-t35 c =
-    let a = c .before .before .before .before .before .before .before .before .before .before .before .before .before .before .before .before .before .before .before .before .before .before .before .args in
+sub-t32 c =
+    let a = c .before .before .before .before .before .before .before .before .before .before .before .before .before .before .before .before .before .before .before .before .args in
     let v = was-next _ (sym (c .before .before .before .before .before .before .before .before .before .before .before .before .before .before .before .before .keyed-at .ensures) ∙ c .before .before .before .before .before .before .before .before .before .before .before .before .before .before .v .given .1) in
     let n = was-next _ (sym (c .before .before .before .before .before .before .before .before .before .before .keyed-at2 .ensures) ∙ c .before .before .before .before .before .before .before .before .n .given .1) in
     let e = with-ops (a .s .now) (a .at) _ _ _ _ v n (c .before .before .before .before .before .before .if1 .left) in
     omega (arith, some-opcode (a .s .now) (a .at) _ _ _ _ e (sym (c .before .before .before .read-ops .ensures .0) ∙ c .before .o .given .1))
 
-pub sheet-at-spec : {M : Type 1} → statement M
-sheet-at-spec =
+pub sheet-into-spec : {M : Type 1} → statement M
+sheet-into-spec =
     tie.close
-    (tie.spec reset-requires slice-aggregate-keyed-at slice-aggregate-keyed-at-2 keyed-at-requires enum-known-v enum-told returns slice-aggregate-keyed-at-3 slice-aggregate-keyed-at-4 keyed-at-requires-2 enum-known-n enum-told-2 returns-2 returns-3 read-ops-requires enum-known-o sub-t35 enum-known-o-2 reset-requires-2 add-t40 returns-4 returns-5)
+    (tie.spec slice-aggregate-keyed-at slice-aggregate-keyed-at-2 keyed-at-requires enum-known-v enum-told returns slice-aggregate-keyed-at-3 slice-aggregate-keyed-at-4 keyed-at-requires-2 enum-known-n enum-told-2 returns-2 returns-3 read-ops-requires enum-known-o sub-t32 enum-known-o-2 reset-requires add-t37 returns-4 returns-5)

@@ -9,7 +9,6 @@ pub mod TargetsLoop
 pub mod InstructionLaws
 pub mod FlowLaws
 pub mod SmallLabels
-pub mod Filled
 pub mod OpcodeRowLaws
 pub mod DifferentLaws
 pub mod PartLaws

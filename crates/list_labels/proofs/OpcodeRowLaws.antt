@@ -23,7 +23,7 @@ use Rattle.spec_inputs.specs.Context.{Context, nameOf, isJump}
 use Rattle.spec_listing.specs.Labels.{endsFlow, targets, labelsOf, labelOffsets}
 use Rattle.list_labels.specs.FlowNames.{nameShown}
 use Rattle.list_labels.specs.OpcodeRows.{hasAddr, opcodeRow, OpcodeRows, Sized, opcodesOf, labelsBy, recordLabels, rowLabels}
-use Rattle.list_labels.proofs.Filled.{Filled}
+use Rattle.sheet.proofs.Filled.{Filled}
 
 -- the loop over type codes: none of those in front of i is an Addr
 module _ (codes : List ℕ) (i : ℕ) where
@@ -43,7 +43,7 @@ module _ (codes : List ℕ) (i : ℕ) where
 
 -- a table of all rows up to the largest opcode
 pub rows-made : (sheet : List ℕ) (types infos : List (List ℕ)) (last : ℕ) (rows₀ rows : List (List ℕ)) (n : ℕ)
-    → Filled (λ o. opcodeRow sheet (getD types o []) (getD infos o [])) rows₀ rows n → ((o : ℕ) → o < 256 → o ≤ last → o < n) → OpcodeRows sheet types infos last rows
+    → Filled (λ o row. row ≡ opcodeRow sheet (getD types o []) (getD infos o [])) rows₀ rows n → ((o : ℕ) → o < 256 → o ≤ last → o < n) → OpcodeRows sheet types infos last rows
 rows-made sheet types infos last rows₀ rows n g h o l k = g .made o (h o l k)
 
 pub rows-sized : (sheet : List ℕ) (types infos : List (List ℕ)) (last : ℕ) (rows : List (List ℕ)) → OpcodeRows sheet types infos last rows → Sized types last rows

@@ -8,3 +8,4 @@ pub mod OpsLoop
 pub mod SheetAnswers
 pub mod NameWalk
 pub mod RowLaws
+pub mod Filled

@@ -1,7 +1,8 @@
 use Prim.Native.Nat.{_-_, _≤_}
 use mathlib.Core.Path.{_≡_}
 use Rattle.decode.specs.Tables.{codeRow}
-use Rattle.decode.proofs.TableLaws.{Filled, none-made, one-more, codes-made}
+use Rattle.sheet.proofs.Filled.{Filled, none-made, one-more}
+use Rattle.decode.proofs.TableLaws.{codes-made}
 use borrow.Author.Needs.{needs}
 use Rattle.decode.proofs.tables.code_rows.Statement.{statement}
 use Rattle.decode.proofs.tables.code_rows.Tie as tie

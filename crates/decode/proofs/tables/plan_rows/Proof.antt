@@ -3,7 +3,8 @@ use lib.ListN.{getD}
 use Prim.Native.Nat.{_-_, _≤_}
 use native.Mathlib.Omega.{arith}
 use Rattle.decode.specs.Tables.{PlanOf}
-use Rattle.decode.proofs.TableLaws.{Filled, none-made, one-more, plans-made}
+use Rattle.sheet.proofs.Filled.{Filled, none-made, one-more}
+use Rattle.decode.proofs.TableLaws.{plans-made}
 use borrow.Author.Needs.{needs}
 use Rattle.decode.proofs.tables.plan_rows.Statement.{statement}
 use Rattle.decode.proofs.tables.plan_rows.Tie as tie

@@ -1,16 +1,17 @@
+use mathlib.Core.Path.{_≡_}
 use mathlib.Core.List.{[]}
 use lib.ListN.{getD}
 use Prim.Native.Nat.{_-_, _≤_}
 use native.Mathlib.Omega.{arith}
 use Rattle.list_labels.specs.OpcodeRows.{opcodeRow}
-use Rattle.list_labels.proofs.Filled.{Filled, none-made, one-more}
+use Rattle.sheet.proofs.Filled.{Filled, none-made, one-more}
 use Rattle.list_labels.proofs.OpcodeRowLaws.{rows-made}
 use borrow.Author.Needs.{needs}
 use Rattle.list_labels.proofs.opcode_rows.opcode_rows.Statement.{statement}
 use Rattle.list_labels.proofs.opcode_rows.opcode_rows.Tie as tie
 
 abbrev Inv-loop : tie.InvT-loop
-Inv-loop sheet types ops last rows₀ op₀ rows op = (op ≤ 256) × Filled (λ o. opcodeRow sheet (getD types o []) (getD ops o [])) rows₀ rows op
+Inv-loop sheet types ops last rows₀ op₀ rows op = (op ≤ 256) × Filled (λ o row. row ≡ opcodeRow sheet (getD types o []) (getD ops o [])) rows₀ rows op
 
 abbrev μ-loop : tie.MeasureT-loop
 μ-loop sheet types ops last rows₀ op₀ rows op = 256 - op

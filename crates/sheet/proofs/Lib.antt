@@ -1,3 +1,4 @@
+pub mod TypeWordLaws
 pub mod AnswerLaws
 pub mod KeyedLaws
 pub mod TypesLoop

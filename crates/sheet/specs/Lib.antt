@@ -1,4 +1,5 @@
 pub mod Answers
+pub mod TypeWords
 pub mod Lines
 pub mod NameFilter
 pub mod Rows

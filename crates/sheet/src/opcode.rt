@@ -116,8 +116,7 @@ pub fn sheet_at(
     sheet_into(s, at, types, ops)
 }
 
-// The sheet that is the whole text, read into empty tables: callers have just made them, and clearing 10 KiB again would take as
-// long as reading a small sheet.
+// The sheet that is the whole text, read into empty tables, which an operation has just made.
 pub fn read_sheet(s: &[u8], types: &mut [[u8; 8]; 256], ops: &mut [[usize; 4]; 256]) -> Sheet
     requires { ⌜ (now types ≡ noTypeRows) × (now ops ≡ noInfoRows) ⌝ }
     ensures { λ r. ⌜ r ≡ sheetAnswer (sheetOf (now (s .entry))) ⌝ }

@@ -73,7 +73,8 @@ fn read_again(
     Found::Missing
 }
 
-// The last label `L` is known; a longer one is searched in the list. Where the list is not whole, all lines are read again.
+// The last label `L` is known; a long one is searched in the list. Where the list is not whole, all lines are read again, and so they
+// are for a short text, which is no offset and no label's, so that the text is refused and no other is looked up.
 pub fn label_offset(
     text: &[u8],
     sheet: &[u8],

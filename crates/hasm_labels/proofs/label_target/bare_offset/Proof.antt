@@ -1,5 +1,4 @@
 use mathlib.Core.Path.{refl}
-use borrow.Author.Needs.{needs}
 use Rattle.hasm_labels.proofs.label_target.bare_offset.Statement.{statement}
 use Rattle.hasm_labels.proofs.label_target.bare_offset.Tie as tie
 

@@ -1,6 +1,6 @@
 -- What collecting answers, by what the walks answer. Assumes nothing.
 use mathlib.Core.Path.{_≡_, refl, ap, sym, _∙_}
-use mathlib.Core.List.{List, [], _∷_}
+use mathlib.Core.List.{List}
 use Prim.Native.Nat.{ℕ, _+_, _-_, _≤_, _<_}
 use native.Mathlib.Nat.{sub-zero}
 use native.Mathlib.Omega.{arith}
@@ -10,7 +10,7 @@ use Rattle.spec_body.specs.Decode.Decoded.{decoded, notDecoded}
 use Rattle.answers.specs.declared.refusal.Refusal.{Refusal}
 use Rattle.spec_listing.specs.Labels.{different}
 use Rattle.list_labels.specs.OpcodeRows.{Opcodes, rowLabels}
-use Rattle.list_labels.specs.Parts.{below, above, within}
+use Rattle.list_labels.specs.Parts.{below, within}
 use Rattle.list_labels.proofs.DifferentLaws.{different-most}
 use Rattle.list_labels.proofs.PartLaws.{different-parts, different-halves, different-one, below-all, within-between}
 use Rattle.list_labels.specs.Notes.{Notes}

@@ -1,8 +1,8 @@
 -- What the rows of opcodes say. Assumes nothing.
-use mathlib.Core.Path.{_≡_, refl, ap, sym, _∙_}
+use mathlib.Core.Path.{_≡_, refl, sym, _∙_}
 use mathlib.Core.Bool.{Bool, true, false}
-use mathlib.Core.List.{List, [], _∷_, _++_, append-nil}
-use Prim.Native.Nat.{ℕ, suc, _+_, _≤_, _<_}
+use mathlib.Core.List.{List, [], _∷_}
+use Prim.Native.Nat.{ℕ, _+_, _≤_, _<_}
 use native.Mathlib.Numerals.{add-one}
 use native.Mathlib.Omega.{arith}
 use borrow.Author.Tests.{eq-eqb, ne-eqb}
@@ -13,7 +13,6 @@ use Rattle.lists.specs.Choice.{pick, both, either}
 use Rattle.lists.proofs.Tests.{by-eqb}
 use Rattle.spec_sheet.specs.Line.{jumpMark, nameStart, nameSize}
 use Rattle.spec_sheet.specs.Types.{familyOf}
-use Rattle.spec_sheet.specs.Row.{lengthOf}
 use Rattle.spec_body.specs.Record.{recordOf, offsetOf, opcodeOf, pairsOf}
 use Rattle.spec_body.specs.Decode.{rowAt, decodeBody}
 use Rattle.spec_body.specs.Decode.Decoded.{decoded}
@@ -22,7 +21,7 @@ use Rattle.spec_body.proofs.DecodeLaws.Decoding.{ended, more}
 use Rattle.spec_inputs.specs.Context.{Context, nameOf, isJump}
 use Rattle.spec_listing.specs.Labels.{endsFlow, targets, labelsOf, labelOffsets}
 use Rattle.list_labels.specs.FlowNames.{nameShown}
-use Rattle.list_labels.specs.OpcodeRows.{hasAddr, opcodeRow, OpcodeRows, Sized, opcodesOf, labelsBy, recordLabels, rowLabels}
+use Rattle.list_labels.specs.OpcodeRows.{hasAddr, opcodeRow, OpcodeRows, Sized, opcodesOf, recordLabels, rowLabels}
 use Rattle.sheet.proofs.Filled.{Filled}
 
 -- the loop over type codes: none of those in front of i is an Addr

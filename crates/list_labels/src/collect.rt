@@ -5,7 +5,6 @@ ghost use lib.ListN.{length, replicate};
 ghost use Rattle.limits.specs.Limits.{bodyLimit};
 ghost use Rattle.spec_body.specs.Decode.{decodeBody};
 ghost use Rattle.list_labels.specs.Readable.{readable};
-ghost use Rattle.list_labels.specs.Notes.{notesOf};
 ghost use Rattle.list_labels.specs.OpcodeRows.{Sized, opcodesOf, rowLabels};
 ghost use Rattle.list_labels.specs.Collecting.{unnoted, walkOf, walkedCount, Noted, FarCounted, CollectedFor, Flagged};
 use crate::offset_set::Counts;

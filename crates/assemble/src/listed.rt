@@ -26,9 +26,9 @@ const ALL_INDEX: usize = 81_920;
 
 // How many long labels are listed on the stack where too few entries are lent, and their index. What the stack has room for below
 // 1 MiB, beside the texts' index.
-const OWN_LABELS: usize = 33_600;
+const OWN_LABELS: usize = 22_400;
 
-const OWN_INDEX: usize = 38_400;
+const OWN_INDEX: usize = 25_600;
 
 // Space for the labels and their indexes. No contract, since the types say the lengths.
 fn few_index() -> [u32; FEW_INDEX] {

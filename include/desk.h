@@ -134,31 +134,31 @@ const char *desk_version(void);
 const char *desk_explain(uint64_t number);
 
 /* Decodes a body into records of 20 words. length counts the records.
-   Stack 13 KiB, time 0.2 to 0.6 ms. */
+   Stack 20 KiB, time 0.1 to 0.2 ms. */
 struct desk_answer desk_decode(const uint8_t *sheet, size_t sheet_len, const uint8_t *body, size_t body_len,
                                uint64_t *out, size_t out_len);
 
 /* The same for function number id of an area.
-   Stack 13 KiB, time 0.2 to 0.6 ms. */
+   Stack 20 KiB, time 0.1 to 0.2 ms. */
 struct desk_answer desk_decode_function(const uint8_t *sheet, size_t sheet_len, const uint32_t *functions,
                                         size_t functions_len, const uint8_t *area, size_t area_len, uint32_t base,
                                         size_t id, uint64_t *out, size_t out_len);
 
 /* Encodes records of 20 words into a body. length counts the bytes.
-   Stack 13 KiB, time 0.1 to 0.3 ms. */
+   Stack 14 KiB, time 0.1 to 0.2 ms. */
 struct desk_answer desk_encode(const uint8_t *sheet, size_t sheet_len, const uint64_t *words, size_t words_len,
                                uint8_t *out, size_t out_len);
 
 /* Lists a body, with offsets, labels and texts shown or not. length counts the bytes of the text. One label entry is
    needed for each different label offset, none where labels are not shown.
-   Stack 77 KiB, time 0.9 to 1.6 ms. */
+   Stack 77 KiB, time 1.0 to 1.6 ms. */
 struct desk_answer desk_list(const uint8_t *sheet, size_t sheet_len, const uint8_t *bytes, size_t bytes_len,
                              const uint32_t *ends, size_t ends_len, const uint8_t *body, size_t body_len, bool offsets,
                              bool labels, bool texts, uint8_t *out, size_t out_len, uint32_t *entries,
                              size_t entries_len);
 
 /* The same for function number id of an area.
-   Stack 77 KiB, time 0.9 to 1.6 ms. */
+   Stack 77 KiB, time 1.0 to 1.6 ms. */
 struct desk_answer desk_list_function(const uint8_t *sheet, size_t sheet_len, const uint8_t *bytes, size_t bytes_len,
                                       const uint32_t *ends, size_t ends_len, const uint32_t *functions,
                                       size_t functions_len, const uint8_t *area, size_t area_len, uint32_t base,
@@ -167,7 +167,7 @@ struct desk_answer desk_list_function(const uint8_t *sheet, size_t sheet_len, co
 
 /* Lists all functions of an area, each under a line that names it. Label entries are needed for one function at a time:
    as many as the function with the most different label offsets has.
-   Stack 77 KiB, time as for listing each function. */
+   Stack 78 KiB, time as for listing each function. */
 struct desk_answer desk_list_module(const uint8_t *sheet, size_t sheet_len, const uint8_t *bytes, size_t bytes_len,
                                     const uint32_t *ends, size_t ends_len, const uint32_t *functions,
                                     size_t functions_len, const uint8_t *area, size_t area_len, uint32_t base,
@@ -176,7 +176,7 @@ struct desk_answer desk_list_module(const uint8_t *sheet, size_t sheet_len, cons
 
 /* Assembles a text into a body. length counts the bytes, and a refusal's place is the text's line. One label entry of
    three words is needed for each label line that an instruction takes.
-   Stack 1,019 KiB, time 4.6 to 12 ms. Of labels with a number past 32 bits, which no listing has, only the first 22,400 are found
+   Stack 859 KiB, time 4.5 to 7.7 ms. Of labels with a number past 32 bits, which no listing has, only the first 22,400 are found
    quickly where fewer entries are lent than there are such labels; a text of 962,000 bytes made of more took two minutes. */
 struct desk_answer desk_assemble(const uint8_t *sheet, size_t sheet_len, const uint8_t *bytes, size_t bytes_len,
                                  const uint32_t *ends, size_t ends_len, const uint8_t *text, size_t text_len,
@@ -185,7 +185,7 @@ struct desk_answer desk_assemble(const uint8_t *sheet, size_t sheet_len, const u
 /* Carries a body from the first sheet and string table to the second (sheet2, bytes2, ends2): each instruction gets the second
    sheet's opcode of its name, and keeps its meaning. length counts the bytes, and a refusal's place is the instruction's index,
    from 0; for 13 and 14 its byte offset. One label entry of three words is needed for each instruction.
-   Stack 798 KiB, time 0.9 to 5.3 ms. */
+   Stack 607 KiB, time 0.7 to 2.7 ms. */
 struct desk_answer desk_carry(const uint8_t *sheet, size_t sheet_len, const uint8_t *bytes, size_t bytes_len,
                               const uint32_t *ends, size_t ends_len, const uint8_t *sheet2, size_t sheet2_len,
                               const uint8_t *bytes2, size_t bytes2_len, const uint32_t *ends2, size_t ends2_len,

@@ -2,7 +2,7 @@
 
 Each operation takes bytes and gives its result, or raises Refused. It lends the C function the space that always suffices, as
 include/desk.h derives it, so that 19, too little space, never comes back. Calls keep no state and may run on any number of
-threads; each needs up to 800 KiB of its thread's stack (threading.stack_size).
+threads; each needs up to 860 KiB of its thread's stack (threading.stack_size).
 
 The shared library is libdesk.so of the folder that DESK_LIB names, of target/host-kit where `make` leaves it in this
 repository, or else the system's.

@@ -2,7 +2,7 @@
 //!
 //! Each operation takes slices and gives its result or a [`Refusal`]. It lends the C function the space that always suffices, as
 //! include/desk.h derives it, so that 19, too little space, never comes back. Calls keep no state and may run on any number of
-//! threads; each needs up to 800 KiB of its thread's stack, which Rust's default of 2 MiB has.
+//! threads; each needs up to 860 KiB of its thread's stack, which Rust's default of 2 MiB has.
 //!
 //! ```
 //! let sheet = b"version=1\ncount=1\nop=4 name=Ret jump=0 types=Reg8\n";

@@ -86,8 +86,11 @@
 /* The same, label entries: one for each instruction. */
 #define DESK_CARRY_LABELS(n) DESK_LEAST(n, DESK_MAX_BODY)
 
-/* Stack for a thread that calls any of the functions: the deepest call, desk_carry, was measured at 816,471 bytes. */
+/* Stack for a thread that calls any of the functions: the deepest call, desk_assemble, was measured at 879,215 bytes. */
 #define DESK_STACK 1048576
+
+/* Stack for one that lists, where enough label entries are lent or no label lies past the body: 79,559 bytes were measured. */
+#define DESK_LIST_STACK 131072
 
 #ifdef __cplusplus
 extern "C" {

@@ -285,6 +285,44 @@ static void threads(uint64_t seed, uint64_t count)
     }
 }
 
+/* Lists a body of few bytes, one of the largest size, and one whose jumps all go to another place outside. */
+static void *lists(void *failed)
+{
+    static const uint8_t sheet[] = "version=1\ncount=2\nop=0 name=A jump=0 types=-\nop=1 name=J jump=1 types=Addr32\n";
+    static uint8_t body[DESK_MAX_BODY], out[DESK_LIST_BYTES];
+    static uint32_t entries[DESK_LIST_ENTRIES(DESK_MAX_BODY)];
+    static const size_t sizes[] = {2, DESK_MAX_BODY, DESK_MAX_BODY / 5 * 5};
+    for (int i = 0; i < 3; i++) {
+        for (size_t at = 0; i == 2 && at + 5 <= sizes[i]; at += 5) {
+            const uint32_t distance = (uint32_t)(1000000 + at);
+            body[at] = 1;
+            memcpy(body + at + 1, &distance, 4);
+        }
+        const struct desk_answer a = desk_list(sheet, sizeof sheet - 1, NULL, 0, NULL, 0, body, sizes[i], true, true, true, out,
+                                               sizeof out, entries, sizeof entries / sizeof *entries);
+        if (a.number != 0 || a.length == 0)
+            *(bool *)failed = true;
+    }
+    return NULL;
+}
+
+/* That on a thread with the stack that desk.h names for it, where more would fault. */
+static void small_stack(void)
+{
+    pthread_t thread;
+    pthread_attr_t attr;
+    bool failed = false;
+    pthread_attr_init(&attr);
+    pthread_attr_setstacksize(&attr, DESK_LIST_STACK);
+    if (pthread_create(&thread, &attr, lists, &failed) != 0)
+        exit(2);
+    pthread_join(thread, NULL);
+    if (failed) {
+        printf("a listing with the stack for it is refused\n");
+        exit(1);
+    }
+}
+
 int main(int argc, char **argv)
 {
     static struct caller c;
@@ -314,6 +352,8 @@ int main(int argc, char **argv)
     }
     threads(seed, count / 10);
     printf("%d threads have the same answers\n", THREADS);
+    small_stack();
+    printf("listing has enough of %d bytes of stack\n", DESK_LIST_STACK);
     printf("%llu inputs, %llu calls, 0 faults\n", (unsigned long long)count, (unsigned long long)c.calls);
     caller_drop(&c);
     return 0;

@@ -6,7 +6,6 @@ use Rattle.assemble.specs.Contexts.{labelsOf}
 use Rattle.spec_inputs.specs.Context.{contextFrom}
 use mathlib.Core.List.{[]}
 use native.Mathlib.Omega.{arith}
-use borrow.Author.Needs.{needs}
 use Rattle.assemble.proofs.instruction.put_line.Statement.{statement}
 use Rattle.assemble.proofs.instruction.put_line.Tie as tie
 

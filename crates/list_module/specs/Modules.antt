@@ -41,8 +41,9 @@ unfoldable pub listLocated : Options → Context → ℕ → List ℕ → ℕ �
 listLocated o e last area id (Inside f) = titled o e last id (f .name) (scan.part area (f .start) (f .size))
 listLocated o e last area id (Refused x) = notListed x
 
--- a module's listing x was written at the front, where so many label entries are lent for each function: the buffer was `out` and is `out′`; "18 and 19 of the whole listing come
--- last", so one over 1,048,576 is counted no further, and a function behind it may still be refused
+-- a module's listing x was written at the front, where so many label entries are lent for each function: the buffer was `out` and
+-- is `out′`; "18 and 19 of the whole listing come last", so one over 1,048,576 is counted no further, and a function behind it may
+-- still be refused
 pub data ModuleWritten (lent : ℕ) (x : Listed) (out : List ℕ) (out′ : List ℕ) (r : Part) : Type 0 where
   within : (t : List ℕ) (k needed n : ℕ) → x ≡ listed t needed → r ≡ part.Listed k n → EntriesFor lent needed n → Put out 0 t out′ k → ModuleWritten lent x out out′ r
   over : (t : List ℕ) (k needed n : ℕ) → x ≡ listed t needed → r ≡ part.Listed k n → listingLimit < k → listingLimit < length t → length out′ ≡ length out → ModuleWritten lent x out out′ r

@@ -33,6 +33,13 @@ pub off-is : Off ≡ stepOf off
 unfolding stepOf
 off-is = refl
 
+-- an answer that is told by its fields, and one that is none
+pub as-told : (x : Step) {n k v b : ℕ} → x ≡ next n k → Next n k ≡ Next v b → x ≡ next v b
+as-told x {n} {k} {v} {b} e f = let p : n ≡ v = cc f in let q : k ≡ b = cc f in rw (p, q) at e
+
+pub none-told : {P : Type 0} {v b : ℕ} → Off ≡ Next v b → P
+none-told e = absurd (let z : _≡_ {A = ℕ} 0 1 = cc e in omega arith)
+
 -- a name that was found, and one that was not
 pub name-found : (x : Found) {k : ℕ} → foundOf x ≡ At k → false ≡ isMissing x
 unfolding isMissing

@@ -43,6 +43,12 @@ module _ (key : List ℕ) (most : ℕ) (tail s : List ℕ) (at : ℕ) where
       unfolding keyedAt after
       keyed-whole t i j = rw (was-next _ (sym e ∙ f), was-next _ (sym g ∙ h), was-next _ (sym i ∙ j)) (next-is _ _)
 
+-- the same by its three readings
+pub keyed-read : (key : List ℕ) (most : ℕ) (tail s : List ℕ) (at : ℕ) {u a v b w c : ℕ} → literalAt key s at ≡ next u a → numberAt most s a ≡ next v b → literalAt tail s b ≡ next w c
+    → keyedAt key most tail s at ≡ next v c
+unfolding keyedAt after
+keyed-read key most tail s at e f g = rw (e, f, g)
+
 -- a jump mark is one digit
 pub jump-form : (b v : ℕ) (s : List ℕ) (at : ℕ) → isDigit b ≡ true → unsignedValue 10 1 (b ∷ []) ≡ is v
     → opens (text " jump=" ++ (b ∷ text " types=")) (drop at s) ≡ true → jumpAt s at ≡ next v (at + 14)

@@ -1,3 +1,5 @@
+pub mod WordLaws
+pub mod ShortNumbers
 pub mod TypeWordLaws
 pub mod AnswerLaws
 pub mod KeyedLaws

@@ -1,21 +1,18 @@
 -- An operand type's name read by one word. Assumes nothing.
 use mathlib.Core.Path.{_≡_, refl, ap, sym, _∙_}
 use mathlib.Core.Bool.{true, false}
-use mathlib.Core.List.{List, [], _∷_, _++_}
-use Prim.Native.Nat.{ℕ, zero, suc, _+_, _-_, _*_, _/_, _%_, _^_, _≤_, _<_}
-use native.Mathlib.Nat.{add-mul-mod-self-left, mod-eq-of-lt}
+use mathlib.Core.List.{List, _∷_, _++_}
+use Prim.Native.Nat.{ℕ, suc, _+_, _/_, _%_, _^_, _≤_, _<_}
 use native.Mathlib.Omega.{arith}
-use lib.ListN.{length, drop, take, getD, take-append-drop}
+use lib.ListN.{length, drop, getD, take-append-drop}
 use lib.Seq.{drop-drop, drop-cons}
 use borrow.Author.Tests.{eq-eqb, ne-eqb}
 use Rattle.lists.specs.Scan.{Bytes, all, same, run, part}
 use Rattle.lists.specs.Text.{text}
-use Rattle.lists.proofs.Parts.{bytes-drop, part-length}
+use Rattle.lists.proofs.Parts.{part-length}
 use Rattle.lists.proofs.Scans.{run-stops}
 use Rattle.lists.proofs.Tests.{by-eqb}
 use Rattle.spec_numbers.specs.LittleEndian.{le, leBytes}
-use Rattle.spec_numbers.proofs.ByteLaws.{leBytes-le, le-bound}
-use Rattle.numbers.proofs.ByteSums.{le-split, le-one, le-behind}
 use Rattle.spec_sheet.specs.Types.{typeNames, typeCodeIn, typeCode}
 use Rattle.spec_sheet.specs.Scan.{isNameByte, typeAt}
 use Rattle.spec_sheet.specs.Scan.Step.{next}
@@ -23,39 +20,15 @@ use Rattle.spec_sheet.proofs.ScanLaws.{type-here}
 use Rattle.sheet.specs.TypeWords.{Names, stepTo}
 use Rattle.sheet.specs.declared.scan.Step.{Step}
 use Rattle.sheet.specs.declared.scan.Step.the-variants.{Next, Off}
-
-bytes-take : (s : List ℕ) (n : ℕ) → Bytes s → Bytes (take n s)
-bytes-take s zero h i = omega arith
-bytes-take [] (suc n) h i = h i
-bytes-take (b ∷ s) (suc n) h zero = h 0
-bytes-take (b ∷ s) (suc n) h (suc i) = bytes-take s n (λ j. h (suc j)) i
+use Rattle.sheet.proofs.WordLaws.{front-bytes, byte-behind}
 
 module _ (s : List ℕ) (at n : ℕ) (bs : Bytes s) (h : at + 8 ≤ length s) (l : n < 8) where
-  eight-bytes : n + (8 - n) ≡ 8
-  eight-bytes = omega arith
-
-  -- the first n of eight bytes
-  front-bytes : leBytes n (le (part s at 8) % 256 ^ n) ≡ part s at n
-  front-bytes =
-      let e : le (part s at 8) ≡ le (part s at n) + 256 ^ n * le (part s (at + n) (8 - n)) = rw eight-bytes at (le-split s at n (8 - n) (omega arith)) in
-      let m : le (part s at 8) % 256 ^ n ≡ le (part s at n) =
-      rw (e, add-mul-mod-self-left (le (part s at n)) (256 ^ n) (le (part s (at + n) (8 - n)))) (mod-eq-of-lt (le-bound n (drop at s) (bytes-drop s at bs))) in
-      rw m (rw (part-length s at n (omega arith)) at (leBytes-le (part s at n) (bytes-take (drop at s) n (bytes-drop s at bs))))
-
-  -- the byte behind them
-  byte-behind : le (part s at 8) / 256 ^ n % 256 ≡ getD s (at + n) 0
-  byte-behind =
-      let e : le (part s at 8) / 256 ^ n ≡ le (part s (at + n) (8 - n)) = rw eight-bytes at (le-behind s at n (8 - n) bs (omega arith)) in
-      let f : 1 + (7 - n) ≡ 8 - n = omega arith in
-      let g : le (part s (at + n) (8 - n)) ≡ le (part s (at + n) 1) + 256 ^ 1 * le (part s (at + n + 1) (7 - n)) = rw f at (le-split s (at + n) 1 (7 - n) (omega arith)) in
-      rw e (omega (arith, g, le-one s (at + n) (omega arith), bs (at + n)))
-
   -- a name and a byte that is no part of one
   word-read : (code : ℕ) → isNameByte (le (part s at 8) / 256 ^ n % 256) ≡ false → Names n (le (part s at 8) % 256 ^ n) code → (code ≡ 0 → ⊥) → typeAt s at ≡ next code (at + n)
   word-read code e w z =
-      let t : typeCode (part s at n) ≡ code = rw front-bytes at (w .0) in
-      let a : all isNameByte (part s at n) ≡ true = rw front-bytes at (w .1) in
-      let b : isNameByte (getD s (at + n) 0) ≡ false = rw byte-behind at e in
+      let t : typeCode (part s at n) ≡ code = rw (front-bytes s at n bs h (omega arith)) at (w .0) in
+      let a : all isNameByte (part s at n) ≡ true = rw (front-bytes s at n bs h (omega arith)) at (w .1) in
+      let b : isNameByte (getD s (at + n) 0) ≡ false = rw (byte-behind s at n bs h (omega arith) l) at e in
       let d : drop at s ≡ part s at n ++ (getD s (at + n) 0 ∷ drop (suc (at + n)) s) =
       sym (take-append-drop n (drop at s)) ∙ ap (λ (r : List ℕ). part s at n ++ r) (drop-drop n at s ∙ drop-cons s (at + n) 0 (omega arith)) in
       let r : run isNameByte (drop at s) ≡ n =

@@ -1,5 +1,6 @@
 // The opcode sheet (opcode.rs).
 pub mod line; // one opcode line
+pub mod line_word; // the fixed texts and the number of an opcode line by words
 pub mod name_filter; // a filter that tells most new names at one look
 pub mod name_index; // the opcode of a name, by an index of all names
 pub mod opcode; // a sheet's text read into tables by opcode

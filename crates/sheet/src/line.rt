@@ -77,23 +77,17 @@ pub enum Head {
     Off,
 }
 
-// The number of an opcode line between its texts. `keyed_at` would do; here both texts are constants, which is faster.
+// The number of an opcode line between its texts, first by words, which takes half the time.
 fn op_at(s: &[u8], at: usize) -> Step
     ensures { λ r. ⌜ r ≡ stepOf (keyedAt (text "op=") 255 (text " name=") (now (s .entry)) at) ⌝ }
 {
-    let k = crate::scan::literal_at(s, at, b"op=");
-    let Step::Next(_, a) = k else {
-        return k;
-    };
-    let v = crate::scan::number_at(s, a, 255);
-    let Step::Next(value, b) = v else {
-        return v;
-    };
-    let e = crate::scan::literal_at(s, b, b" name=");
-    let Step::Next(_, c) = e else {
-        return e;
-    };
-    Step::Next(value, c)
+    if crate::scan::has_left(s, at, 16) {
+        let q = crate::line_word::quick_op(s, at);
+        if let Step::Next(_, _) = q {
+            return q;
+        }
+    }
+    crate::scan::keyed_at(s, at, b"op=", 255, b" name=")
 }
 
 fn head_at(s: &[u8], at: usize) -> Head
@@ -155,15 +149,15 @@ fn line_types(s: &[u8], code: usize, start: usize, size: usize, jump: usize, at:
     no_line()
 }
 
-// The jump mark between its texts: first the two forms that there are, then any other text, which is malformed.
+// The jump mark between its texts: first the two forms that there are, by words, then any other text, which is malformed.
 fn jump_at(s: &[u8], at: usize) -> Step
     ensures { λ r. ⌜ r ≡ stepOf (jumpAt (now (s .entry)) at) ⌝ }
 {
-    if slices::compare::opens_at(s, at, b" jump=0 types=") {
-        return Step::Next(0, at + 14);
-    }
-    if slices::compare::opens_at(s, at, b" jump=1 types=") {
-        return Step::Next(1, at + 14);
+    if crate::scan::has_left(s, at, 16) {
+        let q = crate::line_word::quick_jump(s, at);
+        if let Step::Next(_, _) = q {
+            return q;
+        }
     }
     crate::scan::keyed_at(s, at, b" jump=", 1, b" types=")
 }

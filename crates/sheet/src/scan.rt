@@ -151,7 +151,7 @@ pub fn name_at(s: &[u8], at: usize) -> Step
 }
 
 // Whether n bytes are left.
-fn has_left(s: &[u8], at: usize, n: usize) -> bool
+pub(crate) fn has_left(s: &[u8], at: usize, n: usize) -> bool
     ensures { λ r. ⌜ r ≡ leb (at + n) (length (now (s .entry))) ⌝ }
 {
     if s.len() < at {

@@ -1,5 +1,6 @@
 pub mod WordLaws
 pub mod ShortNumbers
+pub mod LetterWords
 pub mod TypeWordLaws
 pub mod AnswerLaws
 pub mod KeyedLaws

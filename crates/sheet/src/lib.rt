@@ -1,4 +1,5 @@
 // The opcode sheet (opcode.rs).
+pub mod letter_word; // the letters in front of eight bytes
 pub mod line; // one opcode line
 pub mod line_word; // the fixed texts and the number of an opcode line by words
 pub mod name_filter; // a filter that tells most new names at one look

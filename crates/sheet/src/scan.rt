@@ -73,7 +73,7 @@ fn count_word(s: &[u8], at: usize, letters: bool) -> usize
 }
 
 // How many letters, digits and underscores stand at `at`. Letters are counted by words of eight bytes, which takes a quarter of the
-// time; what follows them, from the first other byte on, by bytes.
+// time; what follows them is a space as a rule, or else is counted by bytes.
 fn count_name(s: &[u8], at: usize) -> usize
     ensures { λ r. ⌜ (r ≡ run isNameByte (drop at (now (s .entry)))) × (r ≤ length (now (s .entry)) - at) ⌝ }
 {
@@ -83,6 +83,9 @@ fn count_name(s: &[u8], at: usize) -> usize
         let k = crate::letter_word::letters_in_front(w);
         i += k;
         if k < 8 {
+            if s[i] == 32 {
+                return i - at;
+            }
             return i - at + count_word(s, i, true);
         }
     }
@@ -167,17 +170,14 @@ pub fn name_at(s: &[u8], at: usize) -> Step
     Step::Off
 }
 
-// Whether n bytes are left.
+// Whether n bytes are left. The difference does not depend on `at`, so that a loop makes it once.
 pub(crate) fn has_left(s: &[u8], at: usize, n: usize) -> bool
     ensures { λ r. ⌜ r ≡ leb (at + n) (length (now (s .entry))) ⌝ }
 {
-    if s.len() < at {
+    if s.len() < n {
         return false;
     }
-    if s.len() - at < n {
-        return false;
-    }
-    true
+    at <= s.len() - n
 }
 
 // The name of an operand type: its code. Each name has four bytes or more, and comparing them shows whether they are

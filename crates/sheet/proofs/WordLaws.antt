@@ -1,15 +1,17 @@
 -- The word of eight bytes at a place: its first bytes, the byte behind them, and the text that they are. Assumes nothing.
 use mathlib.Core.Path.{_≡_, ap, sym, _∙_}
-use mathlib.Core.Bool.{true}
+use mathlib.Core.Bool.{true, false}
 use mathlib.Core.List.{List, [], _∷_, _++_, append-assoc}
 use Prim.Native.Nat.{ℕ, zero, suc, _+_, _-_, _*_, _/_, _%_, _^_, _≤_, _<_}
 use native.Mathlib.Nat.{add-mul-mod-self-left, mod-eq-of-lt}
 use native.Mathlib.Omega.{arith}
-use lib.ListN.{length, drop, take, getD, take-append-drop}
-use lib.Seq.{drop-drop}
+use lib.ListN.{length, drop, take, getD, take-append-drop, drop-of-length-le}
+use lib.Seq.{drop-drop, drop-cons}
+use borrow.Author.Tests.{ne-eqb}
 use Rattle.lists.specs.Scan.{Bytes, opens, part}
 use Rattle.lists.proofs.Parts.{bytes-drop, part-length}
 use Rattle.lists.proofs.Scans.{opens-append, opens-split}
+use Rattle.lists.proofs.Tests.{by-leb}
 use Rattle.spec_numbers.specs.LittleEndian.{le, leBytes}
 use Rattle.spec_numbers.proofs.ByteLaws.{leBytes-le, le-bound}
 use Rattle.numbers.proofs.ByteSums.{le-split, le-one, le-behind}
@@ -60,6 +62,14 @@ opens-join p q s at a b =
     let e : drop at s ≡ p ++ drop (length p) (drop at s) = opens-split p (drop at s) a in
     let f : drop (length p) (drop at s) ≡ q ++ t = drop-drop (length p) at s ∙ opens-split q (drop (at + length p) s) b in
     ap (opens (p ++ q)) (e ∙ (ap (λ (r : List ℕ). p ++ r) f ∙ sym (append-assoc p q t))) ∙ opens-append (p ++ q) t
+
+-- another byte stands where a text would open
+pub opens-other : (a : ℕ) (p s : List ℕ) (at : ℕ) → (getD s at 0 ≡ a → ⊥) → opens (a ∷ p) (drop at s) ≡ false
+unfolding opens
+opens-other a p s at h =
+    by-leb (length s) at
+    (λ l. rw (drop-of-length-le s l))
+    (λ l. rw (drop-cons s at 0 l, ne-eqb a (getD s at 0) (λ e. h (sym e))))
 
 pub literal-there : (p s : List ℕ) (at : ℕ) → opens p (drop at s) ≡ true → literalAt p s at ≡ next 0 (at + length p)
 unfolding literalAt

@@ -2,7 +2,8 @@
 ghost use mathlib.Core.Path.{_≡_};
 ghost use Prim.Native.Nat.{_+_, _-_, _≤_};
 ghost use lib.ListN.{length, drop, getD};
-ghost use Rattle.lists.specs.Scan.{run};
+ghost use Rattle.lists.specs.Scan.{run, opens};
+ghost use Rattle.lists.specs.Text.{text};
 ghost use Rattle.spec_sheet.specs.Scan.{literalAt, isUpper, isNameByte, numberAt, keyedAt, mayBeName, nameAt, typeAt};
 ghost use Rattle.sheet.specs.Answers.{stepOf, isWordByte};
 ghost use Rattle.lists.specs.Choice.{both};
@@ -146,6 +147,16 @@ fn opens_upper(s: &[u8], at: usize) -> bool
     }
 }
 
+// Whether `Function` stands at `at`. Its first byte is tested before all else, since few names open with it.
+fn opens_function(s: &[u8], at: usize) -> bool
+    ensures { λ r. ⌜ r ≡ opens (text "Function") (drop at (now (s .entry))) ⌝ }
+{
+    if byte_is(s, at, 70) {
+        return slices::compare::opens_at(s, at, b"Function");
+    }
+    false
+}
+
 // Whether the k letters, digits and underscores at `at` may be an opcode's name.
 fn may_be_name(s: &[u8], at: usize, k: usize) -> bool
     ensures { λ r. ⌜ r ≡ mayBeName (now (s .entry)) at k ⌝ }
@@ -153,7 +164,7 @@ fn may_be_name(s: &[u8], at: usize, k: usize) -> bool
     if 48 < k {
         return false;
     }
-    if slices::compare::opens_at(s, at, b"Function") {
+    if opens_function(s, at) {
         return false;
     }
     opens_upper(s, at)

@@ -9,14 +9,11 @@ ghost use Rattle.sheet.specs.TypeWords.{Names, stepTo};
 ghost use Rattle.sheet.specs.declared.scan.Step.the-variants.{Next};
 use crate::scan::Step;
 
-// Whether the lowest byte is a comma or a line end, as behind the types of a sheet.
+// Whether the lowest byte stands before all letters, digits and underscores, as the comma or line end behind a type does.
 fn ends_type(v: u64) -> bool
     ensures { λ r. ⌜ (r ≡ true → isNameByte (v % 256) ≡ false) ⌝ }
 {
-    if v % 256 == 44 {
-        return true;
-    }
-    v % 256 == 10
+    v % 256 < 48
 }
 
 // The code of the type whose name is the four bytes of w, 0 for none; and so for five, six and seven bytes.
@@ -78,8 +75,8 @@ fn step_to(code: u8, place: usize) -> Step
     Step::Next(code as u64, place)
 }
 
-// The name of an operand type, where a comma or a line end stands behind it: what it answers is what `type_at` answers, but it
-// may answer nothing where that does.
+// The name of an operand type, where a byte below `0` stands behind it, as a comma or a line end: what it answers is what `type_at`
+// answers, but it may answer nothing where that does.
 pub(crate) fn quick_type(s: &[u8], at: usize) -> Step
     requires { ⌜ at + 8 ≤ length (now s) ⌝ }
     ensures { λ r. ⌜ ((code place : ℕ) → r ≡ Next code place → typeAt (now (s .entry)) at ≡ next code place) ⌝ }

@@ -1,5 +1,4 @@
 use Rattle.spec_sheet.specs.Scan.{mayBeName}
-use Rattle.lists.specs.Text.{text}
 use borrow.Author.Tests.{le-leb, lt-leb}
 use mathlib.Core.Path.{sym, _∙_}
 use borrow.Author.Needs.{needs}
@@ -10,34 +9,30 @@ returns : tie.Need-returns
 unfolding mayBeName
 returns c = rw (lt-leb _ 48 (c .if1 .taken), mayBeName)
 
-slice-aggregate-opens-at : tie.Need-slice-aggregate-opens-at
-slice-aggregate-opens-at c = search needs
-
-opens-at-requires : tie.Need-opens-at-requires
-opens-at-requires c κs = search needs
+opens-function-requires : tie.Need-opens-function-requires
+opens-function-requires c κs = search needs
 
 returns-2 : tie.Need-returns-2
-unfolding mayBeName text
+unfolding mayBeName
 returns-2 c =
     let p = c .before in
-    rw (le-leb _ 48 (p .before .before .if1 .left), sym (p .opens-at .ensures) ∙ c .if2 .taken, mayBeName)
+    rw (le-leb _ 48 (p .before .if1 .left), sym (p .opens-function .ensures) ∙ c .if2 .taken, mayBeName)
 
 opens-upper-requires : tie.Need-opens-upper-requires
 opens-upper-requires c κs = search needs
 
 returns-3 : tie.Need-returns-3
-unfolding mayBeName text
+unfolding mayBeName
 returns-3 c =
     let p = c .before .before in
-    rw (le-leb _ 48 (p .before .before .if1 .left), sym (p .opens-at .ensures) ∙ c .before .if2 .left, mayBeName) (c .opens-upper .ensures)
+    rw (le-leb _ 48 (p .before .if1 .left), sym (p .opens-function .ensures) ∙ c .before .if2 .left, mayBeName) (c .opens-upper .ensures)
 
 pub may-be-name-spec : {M : Type 1} → statement M
 may-be-name-spec =
     tie.close
     (tie.spec
     returns
-    slice-aggregate-opens-at
-    opens-at-requires
+    opens-function-requires
     returns-2
     opens-upper-requires
     returns-3)

@@ -85,7 +85,7 @@ fn plain_op(s: &[u8], at: usize) -> Step
     crate::scan::keyed_at(s, at, b"op=", 255, b" name=")
 }
 
-// The same, first by words, which takes half the time.
+// The same, first by words, which takes less than half the instructions.
 fn op_at(s: &[u8], at: usize) -> Step
     ensures { λ r. ⌜ r ≡ stepOf (keyedAt (text "op=") 255 (text " name=") (now (s .entry)) at) ⌝ }
 {

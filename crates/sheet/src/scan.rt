@@ -73,8 +73,8 @@ fn count_word(s: &[u8], at: usize, letters: bool) -> usize
     i - at
 }
 
-// How many letters, digits and underscores stand at `at`. Letters are counted by words of eight bytes, which takes a quarter of the
-// time; what follows them is a space as a rule, or else is counted by bytes.
+// How many letters, digits and underscores stand at `at`. Letters are counted by words of eight bytes, which takes a third of the
+// instructions; what follows them is a space as a rule, or else is counted by bytes.
 fn count_name(s: &[u8], at: usize) -> usize
     ensures { λ r. ⌜ (r ≡ run isNameByte (drop at (now (s .entry)))) × (r ≤ length (now (s .entry)) - at) ⌝ }
 {

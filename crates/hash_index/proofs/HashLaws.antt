@@ -1,8 +1,8 @@
 -- How the hash of a text steps, by four bytes. Assumes nothing.
 use mathlib.Core.Path.{_≡_, refl, ap, _∙_}
 use mathlib.Core.List.{List, []}
-use Prim.Native.Nat.{ℕ, suc, _+_, _-_, _/_, _%_, _≤_, _<_}
-use native.Mathlib.Nat.{lt-of-lt-of-le, pow-le-pow-right}
+use Prim.Native.Nat.{ℕ, suc, _+_, _-_, _*_, _/_, _%_, _≤_, _<_}
+use native.Mathlib.Nat.{lt-of-lt-of-le, pow-le-pow-right, mul-le-mul-right, suc-mul}
 use native.Mathlib.Omega.{arith}
 use lib.ListN.{length, take, drop}
 use lib.Seq.{drop-drop}
@@ -50,3 +50,10 @@ short-number n s b l = lt-of-lt-of-le (le-bound n s b) (pow-le-pow-right {n = 25
 pub hash-none : hashOf [] ≡ 0
 unfolding hashOf hashWith le
 hash-none = refl
+
+-- a hash that is scaled to m buckets is one of them
+pub scaled : (h m : ℕ) → h < 65536 → h * m + m ≤ 65536 * m
+scaled h m l = let k : suc h ≤ 65536 = omega arith in rw (suc-mul h m) at (mul-le-mul-right m k)
+
+pub scaled-below : (h m : ℕ) → h < 65536 → 0 < m → h * m / 65536 < m
+scaled-below h m l p = omega (arith, scaled h m l)

@@ -22,3 +22,7 @@ hashLong s = hashWith (hashFrom (length s % 4294967296) s ((length s - 1) / 4)) 
 -- a number below 65536 by the length and all bytes
 unfoldable pub hashOf : List ℕ → ℕ
 hashOf s = pick (ltb (length s) 4) (hashWith (length s) (le s)) (hashLong s) % 65536
+
+-- the bucket of a text among m, by its place among all hashes
+abbrev pub bucketOf : ℕ → List ℕ → ℕ
+bucketOf m s = hashOf s * m / 65536

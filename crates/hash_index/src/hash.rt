@@ -2,7 +2,7 @@
 ghost use mathlib.Core.Path.{_≡_};
 ghost use Prim.Native.Nat.{_≤_, _<_};
 ghost use lib.ListN.{length};
-ghost use Rattle.hash_index.specs.Hash.{hashWith, hashLong, hashOf};
+ghost use Rattle.hash_index.specs.Hash.{hashWith, hashLong, hashOf, bucketOf};
 use numbers::little_endian::four_bytes;
 use numbers::little_endian::read_le;
 
@@ -41,4 +41,12 @@ pub fn hash_of(s: &[u8]) -> usize
         return (hash_with(n as u64, x) % 65536) as usize;
     }
     (hash_long(s) % 65536) as usize
+}
+
+// The bucket of a text among m. The hash is scaled to them, since a division by m takes longer.
+pub fn bucket_of(s: &[u8], m: usize) -> usize
+    requires { ⌜ (0 < m) × (m < 4294967296) ⌝ }
+    ensures { λ r. ⌜ (r ≡ bucketOf m (now (s .entry))) × (r < m) ⌝ }
+{
+    hash_of(s) * m / 65536
 }

@@ -15,10 +15,11 @@ use Rattle.lists.proofs.Scans.{same-eq}
 use Rattle.slices.specs.Answers.{foundOf}
 use Rattle.slices.specs.declared.search.Found.the-variants.{At, Missing}
 use Rattle.spec_hasm.specs.Assemble.{labelOffset}
+use Rattle.hash_index.specs.Hash.{bucketOf}
 use Rattle.hash_index.specs.Chain.{Walk}
 use Rattle.hash_index.proofs.ChainLaws.{in-start, in-next}
 use Rattle.hasm_labels.specs.Slots.{labelIn, labelsIn}
-use Rattle.hasm_labels.specs.Keys.{bucketOf, labelOf, bucketAt, KeysFrom, offsetFrom}
+use Rattle.hasm_labels.specs.Keys.{labelOf, bucketAt, KeysFrom, offsetFrom}
 use Rattle.hasm_labels.proofs.LabelLaws.{labels-none, labels-next, offset-more, offset-none}
 
 module _ (text : List ℕ) (slots : List (List ℕ)) (t : List ℕ) where

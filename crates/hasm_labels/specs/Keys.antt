@@ -1,16 +1,12 @@
 -- The labels of a list as keys of an index. Assumes nothing.
-use Prim.Native.Nat.{ℕ, _-_, _/_, _%_, _<_}
+use Prim.Native.Nat.{ℕ, _-_, _/_, _<_, _^_}
 use mathlib.Core.List.{List, []}
 use lib.ListN.{length, take, getD}
 use Rattle.lists.specs.Found.{Found}
-use Rattle.hash_index.specs.Hash.{hashOf}
+use Rattle.hash_index.specs.Hash.{bucketOf}
 use Rattle.hash_index.specs.Chain.{ChainedIn}
 use Rattle.spec_hasm.specs.Assemble.{LabelAt, labelOffset}
 use Rattle.hasm_labels.specs.Slots.{labelIn, labelsIn}
-
--- the bucket of a text among m
-abbrev pub bucketOf : ℕ → List ℕ → ℕ
-bucketOf m s = hashOf s % m
 
 -- the label of key k: key 0 is the last label, since of equal texts the last counts
 abbrev pub labelOf : List ℕ → List (List ℕ) → ℕ → LabelAt
@@ -28,9 +24,10 @@ KeysFrom m k text slots index = ChainedIn (bucketAt m text slots) m (length slot
 abbrev pub labelBuckets : List ℕ → ℕ
 labelBuckets index = length index / 8
 
--- an index of all labels
+-- an index of all labels, of fewer than 2 ^ 32 words
 pub record LabelsIndexed (text : List ℕ) (slots : List (List ℕ)) (index : List ℕ) : Type 0 where
   pub some : 0 < labelBuckets index
+  pub few : length index < 2 ^ 32
   pub chained : KeysFrom (labelBuckets index) 0 text slots index
 
 -- what a search through the labels from key k on answers

@@ -8,7 +8,7 @@ ghost use lib.ListN.{length, getD};
 ghost use Rattle.slices.specs.Answers.{foundOf};
 ghost use Rattle.spec_hasm.specs.Assemble.{labelOffset};
 ghost use Rattle.hasm_labels.specs.Slots.{labelIn, labelsIn};
-ghost use Rattle.hasm_labels.specs.Keys.{bucketOf, labelBuckets, LabelsIndexed};
+ghost use Rattle.hasm_labels.specs.Keys.{labelBuckets, LabelsIndexed};
 use crate::label_entry::Slot;
 use slices::search::Found;
 
@@ -24,17 +24,9 @@ fn label_text<'a>(text: &'a [u8], labels: &[Slot], i: usize) -> &'a [u8]
     slices::part::part_of(text, l.start as usize, l.size as usize)
 }
 
-// The bucket of a text among m.
-fn bucket_of(s: &[u8], m: usize) -> usize
-    requires { ⌜ 0 < m ⌝ }
-    ensures { λ r. ⌜ (r ≡ bucketOf m (now (s .entry))) × (r < m) ⌝ }
-{
-    hash_index::hash::hash_of(s) % m
-}
-
 // Puts all labels into chains. Key 0 is the last label, so the first label, which has the last key, is put first.
 fn chain_labels(text: &[u8], labels: &[Slot], index: &mut [u32])
-    requires { ⌜ (0 < labelBuckets (now index)) × (length (now labels) < 2 ^ 32) × (labelBuckets (now index) + length (now labels) ≤ length (now index)) ⌝ }
+    requires { ⌜ (0 < labelBuckets (now index)) × (length (now labels) < 2 ^ 32) × (length (now index) < 2 ^ 32) × (labelBuckets (now index) + length (now labels) ≤ length (now index)) ⌝ }
     ensures { λ _. ⌜ LabelsIndexed (now (text .entry)) (now (labels .entry)) (now (index .exit)) ⌝ }
 {
     let m = index.len() / BUCKET_SHARE;
@@ -44,7 +36,7 @@ fn chain_labels(text: &[u8], labels: &[Slot], index: &mut [u32])
     while 0 < left {
         let k = left - 1;
         let s = label_text(text, labels, n - left);
-        let h = bucket_of(s, m);
+        let h = hash_index::hash::bucket_of(s, m);
         hash_index::chain::put_in_front(index, m, h, k);
         left = k;
     }
@@ -83,7 +75,7 @@ pub(crate) fn find_indexed(text: &[u8], labels: &[Slot], index: &[u32], t: &[u8]
 {
     let m = index.len() / BUCKET_SHARE;
     let n = labels.len();
-    let h = bucket_of(t, m);
+    let h = hash_index::hash::bucket_of(t, m);
     let mut k = hash_index::chain::index_at(index, h);
     while k < n {
         let i = n - 1 - k;

@@ -12,19 +12,20 @@ use Rattle.slices.specs.Answers.{foundOf}
 use Rattle.slices.specs.declared.search.Found.the-variants.{At, Missing}
 use Rattle.spec_sheet.specs.Sheet.{hasName, findName}
 use Rattle.spec_sheet.proofs.NameLaws.{find-end, find-here, find-next}
+use Rattle.hash_index.specs.Hash.{bucketOf}
 use Rattle.hash_index.specs.Chain.{Walk}
 use Rattle.hash_index.proofs.ChainLaws.{in-start, in-next}
-use Rattle.sheet.specs.Keys.{bucketOf, bucketAt, NamesIndexed, nameFrom}
+use Rattle.sheet.specs.Keys.{nameBuckets, bucketAt, NamesIndexed, nameFrom}
 
 -- an opcode that has a name is in the name's bucket
-in-bucket : (s name : List ℕ) (rows : List (List ℕ)) (k : ℕ) → hasName s name (getD rows k []) ≡ true → bucketAt s rows k ≡ bucketOf name
+in-bucket : (s name : List ℕ) (rows : List (List ℕ)) (k : ℕ) → hasName s name (getD rows k []) ≡ true → bucketAt s rows k ≡ bucketOf nameBuckets name
 unfolding hasName bucketAt
 in-bucket s name rows k e =
     let row = getD rows k [] in
     let own = part s (getD row 2 0) (getD row 3 0) in
-    ap bucketOf (same-eq own name (both-right (ltb 0 (getD row 3 0)) (same own name) e))
+    ap (bucketOf nameBuckets) (same-eq own name (both-right (ltb 0 (getD row 3 0)) (same own name) e))
 
-module _ (s name : List ℕ) (rows : List (List ℕ)) (h : ℕ) (e : h ≡ bucketOf name) where
+module _ (s name : List ℕ) (rows : List (List ℕ)) (h : ℕ) (e : h ≡ bucketOf nameBuckets name) where
   -- so one in another bucket is passed over
   passed : (i : ℕ) → i < 256 → (bucketAt s rows i ≡ h → ⊥) → nameFrom s name rows i ≡ nameFrom s name rows (i + 1)
   passed i l z =

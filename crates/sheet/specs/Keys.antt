@@ -1,11 +1,11 @@
 -- The names of opcodes as keys of an index. Assumes nothing.
-use Prim.Native.Nat.{ℕ, _%_}
+use Prim.Native.Nat.{ℕ}
 use mathlib.Core.List.{List, []}
 use lib.ListN.{drop, getD}
 use Rattle.lists.specs.Found.{Found}
 use Rattle.spec_sheet.specs.Sheet.{findName}
 use Rattle.spec_sheet.specs.Line.{nameIn}
-use Rattle.hash_index.specs.Hash.{hashOf}
+use Rattle.hash_index.specs.Hash.{bucketOf}
 use Rattle.hash_index.specs.Chain.{ChainedIn}
 
 -- how many buckets the index has, and how many opcodes
@@ -15,13 +15,9 @@ nameBuckets = 1024
 abbrev pub opcodeCount : ℕ
 opcodeCount = 256
 
--- the bucket of a name
-abbrev pub bucketOf : List ℕ → ℕ
-bucketOf name = hashOf name % nameBuckets
-
 -- the bucket of the name in the row of an opcode; a gap has an empty name
 unfoldable pub bucketAt : List ℕ → List (List ℕ) → ℕ → ℕ
-bucketAt s rows k = bucketOf (nameIn s (getD rows k []))
+bucketAt s rows k = bucketOf nameBuckets (nameIn s (getD rows k []))
 
 -- the names of the rows from k on are in chains
 abbrev pub NamesFrom : ℕ → List ℕ → List (List ℕ) → List ℕ → Type 0

@@ -4,9 +4,10 @@ ghost use mathlib.Core.Path.{_≡_};
 ghost use Prim.Native.Nat.{_+_, _≤_, _<_};
 ghost use lib.ListN.{length};
 ghost use Rattle.slices.specs.Answers.{foundOf};
+ghost use Rattle.hash_index.specs.Hash.{bucketOf};
 ghost use Rattle.spec_sheet.specs.Line.{nameIn};
 ghost use Rattle.spec_sheet.specs.Sheet.{findName};
-ghost use Rattle.sheet.specs.Keys.{nameBuckets, opcodeCount, bucketOf, NamesIndexed};
+ghost use Rattle.sheet.specs.Keys.{nameBuckets, opcodeCount, NamesIndexed};
 use slices::search::Found;
 
 const NAME_BUCKETS: usize = 1024;
@@ -16,16 +17,9 @@ const OPCODE_COUNT: usize = 256;
 // How long the index is.
 pub const NAME_INDEX: usize = NAME_BUCKETS + OPCODE_COUNT;
 
-// The bucket of a name.
-fn bucket_of(name: &[u8]) -> usize
-    ensures { λ r. ⌜ (r ≡ bucketOf (now (name .entry))) × (r < nameBuckets) ⌝ }
-{
-    hash_index::hash::hash_of(name) % NAME_BUCKETS
-}
-
 // The bucket of the name in a row. A gap has an empty name, whose hash is 0.
 fn row_bucket(sheet: &[u8], row: [usize; 4]) -> usize
-    ensures { λ r. ⌜ (r ≡ bucketOf (nameIn (now (sheet .entry)) row)) × (r < nameBuckets) ⌝ }
+    ensures { λ r. ⌜ (r ≡ bucketOf nameBuckets (nameIn (now (sheet .entry)) row)) × (r < nameBuckets) ⌝ }
 {
     let start = row[crate::rows::NAME_START];
     let size = row[crate::rows::NAME_SIZE];
@@ -33,7 +27,7 @@ fn row_bucket(sheet: &[u8], row: [usize; 4]) -> usize
         return 0;
     }
     let name = slices::part::part_of(sheet, start, size);
-    bucket_of(name)
+    hash_index::hash::bucket_of(name, NAME_BUCKETS)
 }
 
 // Puts the names of all opcodes into chains, from the last opcode down, so that the first of equal names is found.
@@ -58,7 +52,7 @@ pub fn find_indexed(sheet: &[u8], ops: &[[usize; 4]; 256], index: &[u32], name: 
     ensures { λ r. ⌜ r ≡ foundOf (findName (now (sheet .entry)) (now (name .entry)) 0 (now (ops .entry))) ⌝ }
 {
     let rows: &[[usize; 4]] = ops;
-    let h = bucket_of(name);
+    let h = hash_index::hash::bucket_of(name, NAME_BUCKETS);
     let mut k = hash_index::chain::index_at(index, h);
     while k < rows.len() {
         let row = rows[k];

@@ -2,9 +2,7 @@
 use mathlib.Core.Path.{_≡_, refl, sym, ap, _∙_}
 use mathlib.Core.Bool.{true, false}
 use mathlib.Core.List.{List, _∷_}
-use Prim.Native.Nat.{ℕ, suc, _+_, _*_, _/_, _≤_, _<_}
-use native.Mathlib.Nat.{mul-le-mul-right, suc-mul}
-use native.Mathlib.Omega.{arith}
+use Prim.Native.Nat.{ℕ, _+_, _≤_, _<_}
 use native.Mathlib.Numerals.{add-one}
 use lib.ListN.{length, drop, getD}
 use Rattle.lists.specs.Scan.{same}
@@ -14,16 +12,10 @@ use Rattle.slices.specs.Answers.{foundOf}
 use Rattle.slices.specs.declared.search.Found.the-variants.{At, Missing}
 use Rattle.spec_strings.specs.Table.{textOf, lookupFrom, lookup, entryStart}
 use Rattle.spec_strings.proofs.TableSteps.{lookup-go, lookup-stop, lookup-end}
+use Rattle.hash_index.specs.Hash.{bucketOf}
 use Rattle.hash_index.specs.Chain.{Walk}
 use Rattle.hash_index.proofs.ChainLaws.{in-start, in-next}
-use Rattle.strings.specs.Keys.{bucketOf, bucketAt, TextsFrom, textFrom}
-
--- a hash that is scaled to m buckets is one of them
-pub scaled : (h m : ℕ) → h < 65536 → h * m + m ≤ 65536 * m
-scaled h m l = let k : suc h ≤ 65536 = omega arith in rw suc-mul at (mul-le-mul-right m k)
-
-pub scaled-below : (h m : ℕ) → h < 65536 → 0 < m → h * m / 65536 < m
-scaled-below h m l p = omega (arith, scaled h m l)
+use Rattle.strings.specs.Keys.{bucketAt, TextsFrom, textFrom}
 
 -- an equal text has the text's bucket
 same-bucket : (m : ℕ) (text bytes ends : List ℕ) (k : ℕ) → same (textOf bytes ends k) text ≡ true → bucketAt m bytes ends k ≡ bucketOf m text

@@ -1,15 +1,11 @@
 -- The texts of a string table as keys of an index. Assumes nothing.
-use Prim.Native.Nat.{ℕ, _+_, _*_, _/_, min}
+use Prim.Native.Nat.{ℕ, _+_, min}
 use mathlib.Core.List.{List}
 use lib.ListN.{length, drop}
 use Rattle.lists.specs.Found.{Found}
 use Rattle.spec_strings.specs.Table.{textOf, lookupFrom, entryStart}
-use Rattle.hash_index.specs.Hash.{hashOf}
+use Rattle.hash_index.specs.Hash.{bucketOf}
 use Rattle.hash_index.specs.Chain.{ChainedIn}
-
--- the bucket of a text among m, by its place among all hashes
-abbrev pub bucketOf : ℕ → List ℕ → ℕ
-bucketOf m text = hashOf text * m / 65536
 
 -- the bucket of the text of an id
 unfoldable pub bucketAt : ℕ → List ℕ → List ℕ → ℕ → ℕ

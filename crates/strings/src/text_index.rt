@@ -6,7 +6,7 @@ ghost use lib.ListN.{length};
 ghost use Rattle.limits.specs.Limits.{stringLimit};
 ghost use Rattle.slices.specs.Answers.{foundOf};
 ghost use Rattle.spec_strings.specs.Table.{textOf, lookup, entryStart};
-ghost use Rattle.strings.specs.Keys.{bucketOf, textBuckets, textSpace, TextsIndexed};
+ghost use Rattle.strings.specs.Keys.{textBuckets, textSpace, TextsIndexed};
 use slices::search::Found;
 
 const MOST_BUCKETS: usize = 16384;
@@ -56,14 +56,6 @@ fn buckets_of(n: usize) -> usize
     }
 }
 
-// The bucket of a text among m. The hash is scaled to them, since a division by m takes longer.
-fn bucket_of(text: &[u8], m: usize) -> usize
-    requires { ⌜ (0 < m) × (m ≤ 16384) ⌝ }
-    ensures { λ r. ⌜ (r ≡ bucketOf m (now (text .entry))) × (r < m) ⌝ }
-{
-    hash_index::hash::hash_of(text) * m / 65536
-}
-
 // Puts the texts of all ids into chains, from the last id down, so that the first of equal texts is found.
 pub fn index_texts(bytes: &[u8], ends: &[u32], index: &mut [u32])
     requires { ⌜ (length (now ends) ≤ stringLimit) × (textSpace (length (now ends)) ≤ length (now index)) ⌝ }
@@ -75,7 +67,7 @@ pub fn index_texts(bytes: &[u8], ends: &[u32], index: &mut [u32])
     while 0 < left {
         let id = left - 1;
         let text = text_of(bytes, ends, id);
-        let h = bucket_of(text, m);
+        let h = hash_index::hash::bucket_of(text, m);
         hash_index::chain::put_in_front(index, m, h, id);
         left -= 1;
     }
@@ -87,7 +79,7 @@ pub fn lookup_indexed(text: &[u8], bytes: &[u8], ends: &[u32], index: &[u32]) ->
     ensures { λ r. ⌜ r ≡ foundOf (lookup (now (text .entry)) (now (bytes .entry)) (now (ends .entry))) ⌝ }
 {
     let m = buckets_of(ends.len());
-    let h = bucket_of(text, m);
+    let h = hash_index::hash::bucket_of(text, m);
     let mut id = hash_index::chain::index_at(index, h);
     while id < ends.len() {
         let own = text_of(bytes, ends, id);

@@ -1,4 +1,5 @@
-use Rattle.hasm_labels.specs.Keys.{bucketOf, bucketAt, labelBuckets, KeysFrom}
+use Rattle.hash_index.specs.Hash.{bucketOf}
+use Rattle.hasm_labels.specs.Keys.{bucketAt, labelBuckets, KeysFrom}
 use Rattle.hasm_labels.specs.Slots.{labelIn}
 use Rattle.hash_index.proofs.ChainLaws.{in-none, in-more}
 use lib.ListN.{length, getD}
@@ -24,7 +25,7 @@ loop-holds c =
     let st = c .before .before .before .before .before .before in
     let a = st .args in
     let m = labelBuckets (a .index .now) in
-    (omega arith, in-none (bucketAt m (a .text .now) (a .labels .now)) m (length (a .labels .now)) (a .index .now) _ (c .before .before .empty-heads .ensures) (st .pre .2), refl)
+    (omega arith, in-none (bucketAt m (a .text .now) (a .labels .now)) m (length (a .labels .now)) (a .index .now) _ (c .before .before .empty-heads .ensures) (st .pre .3), refl)
 
 sub-k : tie.Need-sub-k Inv-loop μ-loop
 sub-k c = search needs
@@ -66,8 +67,9 @@ returns c =
     let l = c .before .loop in
     let st = c .before .before .before .before .before .before .before .before in
     let z : l .left ≡ 0 = omega arith in
-    let m : labelBuckets (l .index) ≡ labelBuckets (st .args .index .now) = omega (arith, l .inv .2, c .before .before .before .before .empty-heads .kept .0) in
-    record { some = omega (arith, m, st .pre .0); chained = rw m (rw z at (l .inv .1)) }
+    let e : length (l .index) ≡ length (st .args .index .now) = l .inv .2 ∙ c .before .before .before .before .empty-heads .kept .0 in
+    let m : labelBuckets (l .index) ≡ labelBuckets (st .args .index .now) = omega (arith, e) in
+    record { some = omega (arith, m, st .pre .0); few = omega (arith, e, st .pre .2); chained = rw m (rw z at (l .inv .1)) }
 
 pub chain-labels-spec : {M : Type 1} → statement M
 chain-labels-spec =

@@ -13,7 +13,9 @@ returns : tie.Need-returns
 returns c = λ e. true-not-false false e refl
 
 chain-labels-requires : tie.Need-chain-labels-requires
-chain-labels-requires c κs = c .before .before .has-room .ensures (not-false _ (c .before .if1 .left))
+chain-labels-requires c κs =
+    let room = c .before .before .has-room .ensures (not-false _ (c .before .if1 .left)) in
+    (room .0, room .1, c .before .before .before .before .before .pre, room .2)
 
 same-length : tie.Need-same-length
 same-length c = search needs

@@ -1,4 +1,5 @@
-use Rattle.sheet.specs.Keys.{bucketOf}
+use Rattle.sheet.specs.Keys.{nameBuckets}
+use Rattle.hash_index.specs.Hash.{bucketOf}
 use mathlib.Core.Path.{_∙_, ap}
 use native.Mathlib.Omega.{arith}
 use Rattle.hash_index.proofs.HashLaws.{hash-none}
@@ -22,7 +23,7 @@ bucket-of-requires : tie.Need-bucket-of-requires
 bucket-of-requires c κs = search needs
 
 returns-2 : tie.Need-returns-2
-returns-2 c = (c .bucket-of .ensures .0 ∙ ap bucketOf (c .before .part-of .ensures), c .bucket-of .ensures .1)
+returns-2 c = (c .bucket-of .ensures .0 ∙ ap (bucketOf nameBuckets) (c .before .part-of .ensures), c .bucket-of .ensures .1)
 
 pub row-bucket-spec : {M : Type 1} → statement M
 row-bucket-spec =

@@ -1,4 +1,5 @@
-use Rattle.strings.specs.Keys.{bucketOf, bucketAt, TextsFrom}
+use Rattle.strings.specs.Keys.{bucketAt, TextsFrom}
+use Rattle.hash_index.specs.Hash.{bucketOf}
 use Rattle.hash_index.proofs.ChainLaws.{in-none, in-more}
 use lib.ListN.{length}
 use Prim.Native.Nat.{_-_, _≤_}

@@ -1,10 +1,10 @@
 use mathlib.Core.Path.{ap}
 use Prim.Native.Nat.{ℕ, _*_, _/_}
 use native.Mathlib.Omega.{arith}
-use Rattle.strings.proofs.TextWalk.{scaled, scaled-below}
+use Rattle.hash_index.proofs.HashLaws.{scaled, scaled-below}
 use borrow.Author.Needs.{needs}
-use Rattle.strings.proofs.text_index.bucket_of.Statement.{statement}
-use Rattle.strings.proofs.text_index.bucket_of.Tie as tie
+use Rattle.hash_index.proofs.hash.bucket_of.Statement.{statement}
+use Rattle.hash_index.proofs.hash.bucket_of.Tie as tie
 
 hash-of-requires : tie.Need-hash-of-requires
 hash-of-requires c κs = search needs

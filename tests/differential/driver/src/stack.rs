@@ -83,37 +83,53 @@ fn jumps(count: usize) -> Vec<u8> {
     [1, 127].repeat(count)
 }
 
-/// The operations on bodies, of which the largest has 65,536 bytes, as a body and as the one function of an area.
-fn on_body(all: &mut Vec<Used>, what: &str, count: usize) {
-    let sheet = sheets::of_document();
-    let body = jumps(count);
-    let area = Area { functions: vec![0, body.len() as u32, 0], bytes: body.clone(), base: 0 };
-    let mut words = vec![0u64; 20 * count];
-    let mut text = vec![0u8; 1 << 20];
-    let mut entries = vec![0u32; 1 << 16];
-    let mut bytes = vec![0u8; body.len()];
-    add(all, &format!("desk_decode, {what}"), success(count), || desk::decode(&sheet.text, &body, &mut words));
-    add(all, &format!("desk_decode_function, {what}"), success(count), || desk::decode_function(&sheet.text, &area, 0, &mut words));
-    add(all, &format!("desk_encode, {what}"), success(body.len()), || desk::encode(&sheet.text, &words, &mut bytes));
-    let length = desk::list(&sheet.text, &[], &[], &body, DEFAULT, &mut text, &mut entries).length as usize;
-    add(all, &format!("desk_list, {what}"), success(length), || desk::list(&sheet.text, &[], &[], &body, DEFAULT, &mut text, &mut entries));
-    add(all, &format!("desk_list_function, {what}"), success(length), || {
-        desk::list_function(&sheet.text, &[], &[], &area, 0, DEFAULT, &mut text, &mut entries)
+/// A body as the one function of an area.
+fn alone(body: Vec<u8>) -> Area {
+    Area { functions: vec![0, body.len() as u32, 0], bytes: body, base: 0 }
+}
+
+/// Listing the one function of an area, as a body, as a function and as a module, with so many label entries lent.
+fn listed(all: &mut Vec<Used>, what: &str, sheet: &[u8], area: &Area, lent: usize) {
+    let body = &area.bytes;
+    let (mut text, mut entries) = (vec![0u8; 1 << 20], vec![0u32; lent]);
+    let length = desk::list(sheet, &[], &[], body, DEFAULT, &mut text, &mut entries).length as usize;
+    add(all, &format!("desk_list, {what}"), success(length), || {
+        desk::list(sheet, &[], &[], body, DEFAULT, &mut text, &mut entries)
     });
-    let module = desk::list_module(&sheet.text, &[], &[], &area, DEFAULT, &mut text, &mut entries).length as usize;
+    add(all, &format!("desk_list_function, {what}"), success(length), || {
+        desk::list_function(sheet, &[], &[], area, 0, DEFAULT, &mut text, &mut entries)
+    });
+    let module = desk::list_module(sheet, &[], &[], area, DEFAULT, &mut text, &mut entries).length as usize;
     add(all, &format!("desk_list_module, {what}"), success(module), || {
-        desk::list_module(&sheet.text, &[], &[], &area, DEFAULT, &mut text, &mut entries)
+        desk::list_module(sheet, &[], &[], area, DEFAULT, &mut text, &mut entries)
     });
 }
 
-/// Listing long jumps whose targets lie all over the range, far outside of the body, where labels are counted by parting.
-fn far_labels(all: &mut Vec<Used>) {
+/// The operations on bodies, of which the largest has 65,536 bytes, as a body and as the one function of an area.
+fn on_body(all: &mut Vec<Used>, what: &str, count: usize) {
+    let sheet = sheets::of_document();
+    let area = alone(jumps(count));
+    let body = &area.bytes;
+    let mut words = vec![0u64; 20 * count];
+    let mut bytes = vec![0u8; body.len()];
+    add(all, &format!("desk_decode, {what}"), success(count), || desk::decode(&sheet.text, body, &mut words));
+    add(all, &format!("desk_decode_function, {what}"), success(count), || desk::decode_function(&sheet.text, &area, 0, &mut words));
+    add(all, &format!("desk_encode, {what}"), success(body.len()), || desk::encode(&sheet.text, &words, &mut bytes));
+    listed(all, what, &sheet.text, &area, 1 << 16);
+}
+
+/// Listing 13,107 long jumps to places far outside of the body, with so many label entries lent.
+fn far_labels(all: &mut Vec<Used>, what: &str, lent: usize, place: impl Fn(u32) -> u32) {
     let sheet = b"version=1\ncount=1\nop=0 name=JmpLong jump=1 types=Addr32\n";
-    let jump = |n: u32| [&[0u8][..], &(n.wrapping_mul(0x9e37_79b1) >> 1).to_le_bytes()].concat();
-    let body: Vec<u8> = (0..13_107).flat_map(jump).collect();
-    let (mut text, mut entries) = (vec![0u8; 1 << 20], vec![0u32; 1 << 16]);
-    let length = desk::list(sheet, &[], &[], &body, DEFAULT, &mut text, &mut entries).length as usize;
-    add(all, "desk_list, 13,107 labels far outside", success(length), || desk::list(sheet, &[], &[], &body, DEFAULT, &mut text, &mut entries));
+    let jump = |n: u32| [&[0u8][..], &place(n).wrapping_sub(5 * n).to_le_bytes()].concat();
+    listed(all, what, sheet, &alone((0..13_107).flat_map(jump).collect()), lent);
+}
+
+/// The last place there is, for 1,024 jumps, and the one in front of it for the others. Where fewer entries are lent than labels
+/// are met no listing goes deeper: the last half of each range has more than 1,024 offsets, down to the range of these two, and
+/// the last range has no more, which are told apart by parting them; they are equal, so that they are parted to the end.
+fn last_two_places(n: u32) -> u32 {
+    if n < 1024 { 0x7fff_ffff } else { 0x7fff_fffe }
 }
 
 /// Carrying jumps, with as many strings on both sides.
@@ -130,7 +146,8 @@ pub fn of_calls() -> Vec<Used> {
     let mut all = Vec::new();
     on_body(&mut all, "an empty body", 0);
     on_body(&mut all, "65,536 bytes", 32_768);
-    far_labels(&mut all);
+    far_labels(&mut all, "13,107 labels far outside", 1 << 16, |n| n.wrapping_mul(0x9e37_79b1) >> 1);
+    far_labels(&mut all, "13,107 jumps to the last two places, 13,109 entries lent", 13_109, last_two_places);
     let none = &Table::new(Vec::new());
     let many = &Table::new((0..65_535).map(|n| format!("s{n}")).chain([quotes()]).collect());
     let text = &largest();

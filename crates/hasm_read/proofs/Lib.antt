@@ -8,5 +8,6 @@ pub mod LineLaws
 pub mod CheckLaws
 pub mod PartLaws
 pub mod ShapeLaws
+pub mod LabelLaws
 pub mod OffsetLaws
 pub mod StatementLaws

@@ -5,7 +5,7 @@ use Prim.Native.Nat.{ℕ, _-_, _+_, _≤_, _<_}
 use native.Mathlib.Omega.{arith}
 use mathlib.Core.List.{List}
 use lib.ListN.{length, take, drop}
-use lib.Seq.{take-take, drop-drop, length-take-le}
+use lib.Seq.{take-take, take-length, drop-drop, length-take-le}
 use Rattle.lists.specs.Scan.{run, part}
 use Rattle.lists.proofs.Parts.{part-length}
 use Rattle.spec_inputs.specs.Context.{Context}
@@ -18,6 +18,7 @@ use Rattle.hasm_read.specs.Statements.StatementIn.{none, label, code}
 use Rattle.hasm_read.specs.declared.statement.Statement.the-variants.{Nothing, Label, Instruction}
 use Rattle.hasm_read.proofs.PartLaws.{drop-take}
 use Rattle.hasm_read.proofs.ShapeLaws.{kept-not-empty}
+use Rattle.hasm_read.proofs.LabelLaws.{label-kept, label-alone}
 
 -- what stands of a line: the n bytes at a, s
 pub record Cut (line : List ℕ) (a n : ℕ) (s : List ℕ) : Type 0 where
@@ -63,3 +64,9 @@ module _ (line : List ℕ) (a n : ℕ) (s : List ℕ) (h : Cut line a n s) where
         let f : m ≤ n = omega (arith, k, size) in
         let z : a + n - (a + m) ≡ n - m = omega arith in
         code (a + m) (a + n) (rw (h .text, t, l, b, h .shown, drop-take m n (drop a line), drop-drop m a line, z)) refl (omega (arith, f)) (h .room)
+
+-- a label alone on its line: all of the line stands
+pub a-label-alone : (e : Context) (line : List ℕ) → isLabel line ≡ true → StatementIn (statementOf e line) line (Label 0 (length line - 1))
+a-label-alone e line l =
+    let h : Cut line 0 (length line) line = record { text = label-alone line l; shown = sym (take-length line); room = omega arith } in
+    a-label line 0 (length line) line h e (label-kept line l) l

@@ -26,6 +26,11 @@ pub fn read_statement(
     requires { ⌜ length (now line) ≤ lineLimit ⌝ }
     ensures { λ r. ⌜ ((types : List (List ℕ)) (bytes ends : List ℕ) → StatementIn (statementOf (record { sheet = now (sheet .entry); types = types; infos = now (ops .entry); bytes = bytes; ends = ends }) (now (line .entry))) (now (line .entry)) r) ⌝ }
 {
+    // Most labels stand alone on their line: this saves the search for a comment and for white space.
+    if crate::line_shape::is_label(line) {
+        let size = line.len() - 1;
+        return Statement::Label(0, size);
+    }
     let c = crate::comment::comment_start(line);
     let a = crate::white_space::skip(&line[0..c], 0, true);
     let n = crate::white_space::solid_length(&line[a..c]);

@@ -17,7 +17,7 @@ use Rattle.lists.proofs.Tests.{by-leb, by-eqb, both-no-right}
 use Rattle.spec_sheet.specs.Types.{widthOf, kindOf}
 use Rattle.spec_sheet.specs.Row.{oneFor}
 use Rattle.spec_body.proofs.OperandLaws.{every}
-use Rattle.encode.specs.Ahead.{recordAt, pairsAt}
+use Rattle.encode.specs.RecordPlaces.{recordAt, pairsAt}
 use Rattle.encode.specs.Canonical.{codeTable, inOrder, canonicalCount, canonicalPair, canonicalPairs, allZero, canonicalRecord}
 use Rattle.encode.proofs.ShapeLaws.{pair-word, next-pairs}
 

@@ -6,15 +6,16 @@ use native.Mathlib.Numerals.{add-one}
 use native.Mathlib.Omega.{arith}
 use lib.ListN.{length, drop, getD, drop-of-length-le}
 use lib.Seq.{drop-cons}
-use Rattle.lists.specs.Write.{put, top}
+use Rattle.lists.specs.Write.{put, top, Ahead}
 use Rattle.lists.proofs.Writes.{put-length}
 use Rattle.spec_numbers.specs.LittleEndian.{leBytes}
 use Rattle.spec_sheet.specs.Types.{widthOf}
 use Rattle.spec_sheet.proofs.TypeLaws.{width-most}
-use Rattle.encode.specs.Ahead.{pairsAt, Ahead}
+use Rattle.encode.specs.RecordPlaces.{pairsAt}
 use Rattle.encode.specs.Canonical.{canonicalBytes}
 use Rattle.encode.proofs.ShapeLaws.{pair-word, next-pairs}
-use Rattle.encode.proofs.AheadLaws.{_and-then_, wide}
+use Rattle.lists.proofs.Aheads.{_and-then_}
+use Rattle.numbers.proofs.WordLaws.{wide}
 
 -- j operands were written, and those behind them complete the record
 pub record Going (f words : List ℕ) (at : ℕ) (out₀ : List ℕ) («from» : ℕ) (out : List ℕ) (k j : ℕ) : Type 0 where

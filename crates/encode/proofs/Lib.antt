@@ -1,6 +1,5 @@
 pub mod ShapeLaws
 pub mod CanonicalLaws
-pub mod AheadLaws
 pub mod CanonicalWrites
 pub mod CanonicalRecords
 pub mod OperandsLoop

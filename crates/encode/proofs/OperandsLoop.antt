@@ -16,7 +16,7 @@ use Rattle.spec_body.specs.Encode.Fitted.{fits, noFit}
 use Rattle.spec_sheet.specs.Types.{widthOf}
 use Rattle.spec_body.specs.Encode.{Operands, encodeOperand, encodeOperands, operandBytes, prependBytes}
 use Rattle.spec_body.specs.Encode.Operands.{bytes, misfit}
-use Rattle.encode.specs.Ahead.{pairsAt}
+use Rattle.encode.specs.RecordPlaces.{pairsAt}
 use Rattle.encode.specs.OperandsWritten.{Operanded}
 use Rattle.encode.specs.OperandsWritten.Operanded.{whole, misfits}
 use Rattle.encode.specs.declared.record_operands.Wrote.the-variants.{To, Refused}

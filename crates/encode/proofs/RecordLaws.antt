@@ -1,5 +1,5 @@
 -- One record, case by case. Assumes nothing.
-use mathlib.Core.Path.{_≡_, refl, sym, _∙_}
+use mathlib.Core.Path.{_≡_, refl, _∙_}
 use mathlib.Core.Bool.{true, false}
 use mathlib.Core.List.{List, [], _∷_}
 use Prim.Native.Nat.{ℕ, _+_, _≤_, _<_}
@@ -15,13 +15,13 @@ use Rattle.answers.specs.declared.refusal.OperandFault.the-variants.{Misfit}
 use Rattle.spec_sheet.specs.Row.{countOf}
 use Rattle.spec_body.specs.Encode.{Encoded, goodShape, encodeOperands, withOperands, encodeRecord}
 use Rattle.spec_body.proofs.EncodeLaws.{record-bad, record-beyond, record-miscounted, record-counted}
-use Rattle.encode.specs.Ahead.{recordAt, pairsAt, CanonicalPut}
+use Rattle.encode.specs.RecordPlaces.{recordAt, pairsAt, CanonicalPut}
 use Rattle.encode.specs.Written.{Turn}
 use Rattle.encode.specs.OperandsWritten.{Operanded}
 use Rattle.encode.specs.Canonical.{canonicalRecord}
 use Rattle.encode.specs.OperandsWritten.Operanded.{whole, misfits}
 use Rattle.encode.specs.Written.Turn.{went, stopped}
-use Rattle.encode.proofs.AheadLaws.{not-ahead, more-ahead}
+use Rattle.lists.proofs.Aheads.{not-ahead, more-ahead}
 use Rattle.encode.proofs.CanonicalRecords.{canonical-encoded}
 use Rattle.encode.specs.declared.record_operands.Wrote.{Wrote}
 use Rattle.encode.specs.declared.record_operands.Wrote.the-variants.{To, Refused}

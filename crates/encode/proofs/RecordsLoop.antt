@@ -4,7 +4,7 @@ use mathlib.Core.List.{List, [], _∷_, _++_, append-assoc, append-nil}
 use Prim.Native.Nat.{ℕ, suc, _+_, _-_, _*_, _/_, _%_, _≤_, _<_}
 use native.Mathlib.Omega.{arith}
 use lib.ListN.{length}
-use Rattle.lists.specs.Write.{top}
+use Rattle.lists.specs.Write.{top, Ahead}
 use Rattle.lists.proofs.Writes.{wrote-none}
 use Rattle.lists.proofs.Tests.{by-eqb}
 use Rattle.answers.specs.declared.refusal.Refusal.{Refusal}
@@ -12,10 +12,10 @@ use Rattle.answers.specs.declared.refusal.Refusal.the-variants.{BadRecord}
 use Rattle.spec_body.specs.Encode.{Encoded, appendTo, encodeRecord, encodeFrom, encodeRecords}
 use Rattle.spec_body.specs.Encode.Encoded.{encoded, notEncoded}
 use Rattle.spec_body.proofs.EncodeLaws.{from-end, from-cut, from-more}
-use Rattle.encode.specs.Ahead.{recordAt, Ahead}
+use Rattle.encode.specs.RecordPlaces.{recordAt}
 use Rattle.encode.specs.Written.{Turn}
 use Rattle.encode.specs.Encoding.{Encoding}
-use Rattle.encode.proofs.AheadLaws.{_and-then_, not-ahead, none-ahead, more-ahead}
+use Rattle.lists.proofs.Aheads.{_and-then_, not-ahead, none-ahead, more-ahead}
 use Rattle.encode.specs.Written.Turn.{went, stopped}
 use Rattle.encode.specs.Encoding.Encoding.{all, refuses}
 use Rattle.encode.specs.declared.record_operands.Wrote.{Wrote}

@@ -12,7 +12,7 @@ use borrow.Author.Tests.{eqb-true, ne-eqb}
 use Rattle.lists.proofs.Parts.{part-at}
 use Rattle.lists.proofs.Tests.{both-left, both-right}
 use Rattle.spec_body.specs.Encode.{goodPair, goodPairs, goodShape}
-use Rattle.encode.specs.Ahead.{recordAt, pairsAt}
+use Rattle.encode.specs.RecordPlaces.{recordAt, pairsAt}
 
 -- the words of pair i
 module _ (words : List ℕ) (at i p : ℕ) (e : p ≡ at + 4 + 2 * i) (h : i < 8) where

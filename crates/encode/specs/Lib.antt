@@ -1,5 +1,5 @@
 pub mod Canonical
-pub mod Ahead
+pub mod RecordPlaces
 pub mod OperandsWritten
 pub mod Written
 pub mod Answers

@@ -5,7 +5,7 @@ use Prim.Native.Nat.{ℕ}
 use Rattle.answers.specs.declared.refusal.Refusal.{Refusal}
 use Rattle.spec_body.specs.Encode.{Encoded, appendTo}
 use Rattle.spec_body.specs.Encode.Encoded.{notEncoded}
-use Rattle.encode.specs.Ahead.{Ahead}
+use Rattle.lists.specs.Write.{Ahead}
 use Rattle.encode.specs.declared.record_operands.Wrote.{Wrote}
 use Rattle.encode.specs.declared.record_operands.Wrote.the-variants.{To, Refused}
 

@@ -6,10 +6,9 @@ ghost use Prim.Native.Nat.{_+_, _≤_};
 ghost use lib.Dec.{leb};
 ghost use lib.ListN.{length, take, drop, getD};
 ghost use Rattle.lists.specs.Choice.{pick, both};
-ghost use Rattle.lists.specs.Write.{put};
-ghost use Rattle.spec_numbers.specs.LittleEndian.{leBytes};
+ghost use Rattle.lists.specs.Write.{Ahead};
 ghost use Rattle.spec_sheet.specs.Types.{widthOf};
-ghost use Rattle.encode.specs.Ahead.{recordAt, pairsAt, Ahead, CanonicalPut};
+ghost use Rattle.encode.specs.RecordPlaces.{recordAt, pairsAt, CanonicalPut};
 ghost use Rattle.encode.specs.Canonical.{codeTable, inOrder, canonicalCount, Counted, canonicalPair, canonicalPairs, canonicalBytes, allZero, canonicalRecord};
 use slices::widen::wide_byte;
 
@@ -171,20 +170,6 @@ fn width_in(codes: &[[u64; 13]; 3], code: u8) -> usize
     codes[2][c] as usize
 }
 
-// Writes eight bytes.
-fn put_eight(out: &mut [u8], at: usize, v: u64)
-    requires { ⌜ at + 8 ≤ length (now out) ⌝ }
-    ensures { λ _. ⌜ now (out .exit) ≡ put (now (out .entry)) at (leBytes 8 v) ⌝ }
-{
-    let mut rest = v;
-    let mut i: usize = 0;
-    while i < 8 {
-        out[at + i] = (rest % 256) as u8;
-        rest /= 256;
-        i += 1;
-    }
-}
-
 // Writes the first four operands of the record at `at` from position `from` on.
 fn put_operands(
     codes: &[[u64; 13]; 3],
@@ -200,7 +185,7 @@ fn put_operands(
     let mut k = from;
     let mut j: usize = 0;
     while j < 4 {
-        put_eight(out, k, words[at + 5 + 2 * j]);
+        numbers::little_endian::put_eight(out, k, words[at + 5 + 2 * j]);
         k += width_in(codes, row[j]);
         j += 1;
     }

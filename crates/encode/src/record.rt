@@ -4,7 +4,7 @@ ghost use Prim.Native.Nat.{_+_, _*_, _≤_};
 ghost use lib.ListN.{length};
 ghost use Rattle.spec_body.specs.Encode.{encodeRecord};
 ghost use Rattle.encode.specs.Canonical.{codeTable, Counted};
-ghost use Rattle.encode.specs.Ahead.{recordAt};
+ghost use Rattle.encode.specs.RecordPlaces.{recordAt};
 ghost use Rattle.encode.specs.Written.{Turn};
 use crate::record_operands::Wrote;
 use crate::record_operands::encode_operands;

@@ -4,7 +4,7 @@ ghost use mathlib.Core.Bool.{true};
 ghost use Prim.Native.Nat.{_+_, _*_, _≤_};
 ghost use lib.ListN.{length};
 ghost use Rattle.spec_body.specs.Encode.{goodShape, encodeOperands};
-ghost use Rattle.encode.specs.Ahead.{recordAt, pairsAt};
+ghost use Rattle.encode.specs.RecordPlaces.{recordAt, pairsAt};
 ghost use Rattle.encode.specs.OperandsWritten.{Operanded};
 use answers::refusal::OperandFault;
 use answers::refusal::Refusal;

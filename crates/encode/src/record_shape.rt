@@ -5,7 +5,7 @@ ghost use lib.Dec.{eqb};
 ghost use lib.ListN.{length};
 ghost use Rattle.lists.specs.Choice.{pick, both};
 ghost use Rattle.spec_body.specs.Encode.{goodPair, goodPairs, goodShape};
-ghost use Rattle.encode.specs.Ahead.{recordAt, pairsAt};
+ghost use Rattle.encode.specs.RecordPlaces.{recordAt, pairsAt};
 use operand::write::fits_in;
 
 const KIND_WIDTHS: [usize; 6] = [1, 2, 4, 1, 4, 8];

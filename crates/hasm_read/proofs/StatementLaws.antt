@@ -12,7 +12,6 @@ use Rattle.spec_inputs.specs.Context.{Context}
 use Rattle.spec_hasm.specs.Text.{isWhite, solidLength, trim}
 use Rattle.spec_hasm.specs.Comment.{outside, stripComment}
 use Rattle.spec_hasm.specs.Line.{isSkipped, isLabel, behindOffset, statementIn, statementOf}
-use Rattle.spec_hasm.specs.Line.Statement.{nothing}
 use Rattle.hasm_read.specs.Statements.{StatementIn}
 use Rattle.hasm_read.specs.Statements.StatementIn.{none, label, code}
 use Rattle.hasm_read.specs.declared.statement.Statement.the-variants.{Nothing, Label, Instruction}

@@ -6,6 +6,7 @@ use Prim.Native.Nat.{ℕ, _<_}
 use native.Mathlib.Omega.{arith}
 use lib.Dec.{eqb}
 use lib.ListN.{length, getD, replicate, length-replicate}
+use Rattle.limits.specs.Limits.{bodyLimit}
 use Rattle.lists.specs.Choice.{pick}
 use Rattle.spec_body.specs.Decode.{Decoded, decodeBody}
 use Rattle.spec_body.specs.Decode.Decoded.{decoded, notDecoded}
@@ -76,28 +77,28 @@ pub decodes : (types : List (List ℕ)) (last : ℕ) (s : List ℕ) (e : Context
 decodes types last s e lent n x = record { records = x .records; are = x .are }
 
 -- so many are lent, or so many are counted, with labels shown or not
-pick-entries : (show : Bool) {lent needed n : ℕ} → EntriesFor lent needed n → EntriesFor lent (pick show needed 0) (pick show n 0)
-pick-entries true h = h
-pick-entries false h = (omega arith, λ l. refl)
+pick-entries : (show : Bool) {lent l needed n : ℕ} → l ≡ pick show lent bodyLimit → EntriesFor l needed n → EntriesFor lent (pick show needed 0) (pick show n 0)
+pick-entries true e h = rw e at h
+pick-entries false e h = (omega arith, λ l. refl)
 
 module _ (o : Options) (e : Context) (lent : ℕ) (indent : List ℕ) (d : Decoded) (out : List ℕ) («from» : ℕ) (out′ : List ℕ) where
   abbrev Lines-of : Lines → Type 0
   Lines-of r = Lined (listedText o e (labelOffsets e (recordsOf d)) indent (recordsOf d)) (longLine o e indent (recordsOf d)) out «from» out′ r
 
-  pub all-listed : (n m k : ℕ) → Entries e lent d n → m ≡ pick (o .showLabels) n 0 → Lines-of (lines.To k) → Written lent (listDecoded o e indent d) out «from» out′ (part.Listed k m)
+  pub all-listed : (l n m k : ℕ) → l ≡ pick (o .showLabels) lent bodyLimit → Entries e l d n → m ≡ pick (o .showLabels) n 0 → Lines-of (lines.To k) → Written lent (listDecoded o e indent d) out «from» out′ (part.Listed k m)
   unfolding listDecoded unlessLong recordsOf listEntries
-  all-listed n m k x q (all k′ l r w) =
+  all-listed t n m k y x q (all k′ l r w) =
       let c : k′ ≡ k = cc (sym r) in
       whole (listedText o e (labelOffsets e (recordsOf d)) indent (recordsOf d)) k (listEntries o e (x .records)) m (rw (x .are) (rw (rw (x .are) at l))) refl
-      (rw q (pick-entries (o .showLabels) (x .count))) (rw (sym c) w)
-  all-listed n m k x q (over at l r) = absurd (let z : _≡_ {A = ℕ} 0 1 = cc r in omega arith)
+      (rw q (pick-entries (o .showLabels) y (x .count))) (rw (sym c) w)
+  all-listed t n m k y x q (over at l r) = absurd (let z : _≡_ {A = ℕ} 0 1 = cc r in omega arith)
 
   -- the lines were written as far as one that is too long, and then cleared
-  pub one-long : {r : Part} (n at : ℕ) (after : List ℕ) → Entries e lent d n → Lines-of (lines.Long at) → r ≡ part.Refused (LongLine at) → length out′ ≡ length out → after ≡ zeros out′
+  pub one-long : {r : Part} (l n at : ℕ) (after : List ℕ) → Entries e l d n → Lines-of (lines.Long at) → r ≡ part.Refused (LongLine at) → length out′ ≡ length out → after ≡ zeros out′
       → Written lent (listDecoded o e indent d) out «from» after r
   unfolding listDecoded unlessLong recordsOf
-  one-long n at after x (all k l r w) q h z = absurd (let y : _≡_ {A = ℕ} 0 1 = cc r in omega arith)
-  one-long n at after x (over at′ l r) q h z =
+  one-long t n at after x (all k l r w) q h z = absurd (let y : _≡_ {A = ℕ} 0 1 = cc r in omega arith)
+  one-long t n at after x (over at′ l r) q h z =
       let c : at′ ≡ at = cc (sym r) in
       stopped (LongLine at) (rw (x .are) (rw (rw (x .are) at l, c))) q (zeros-of out′ out after h z)
 

@@ -1,19 +1,19 @@
 -- The loop that writes the lines of a body. Assumes nothing.
-use mathlib.Core.Path.{_≡_, refl, ap, _∙_}
+use mathlib.Core.Path.{_≡_, refl, ap, sym, _∙_}
 use mathlib.Core.Bool.{Bool, true, false}
-use mathlib.Core.List.{List, [], _∷_, _++_}
-use Prim.Native.Nat.{ℕ, _+_, _-_, _*_, _^_, _<_, _≤_, min}
+use mathlib.Core.List.{List, [], _∷_, _++_, append-assoc}
+use Prim.Native.Nat.{ℕ, _+_, _-_, _^_, _<_, _≤_, min}
 use native.Mathlib.Omega.{arith}
 use lib.Dec.{eqb}
-use lib.ListN.{length, getD, length-append}
+use lib.ListN.{length, take, getD, length-append}
 use borrow.Author.Tests.{lt-ltb, le-ltb}
 use Rattle.lists.specs.Choice.{pick, both}
 use Rattle.lists.specs.Text.{text}
 use Rattle.lists.specs.Found.{Found}
 use Rattle.lists.specs.Found.Found.{found, missing}
-use Rattle.lists.specs.Write.{Put, top}
-use Rattle.lists.proofs.Writes.{_then_, same-piece}
-use Rattle.lists.proofs.LeftToWrite.{Left, left-all, left-turn, left-none}
+use Rattle.lists.specs.Write.{Put, ByWords, top}
+use Rattle.lists.proofs.Aheads.{_and-words_, as-words, same-ahead, ahead-front, ahead-length}
+use Rattle.lists.proofs.LeftToWrite.{Left, left-all, left-turn, left-same, left-none}
 use Rattle.spec_numbers.specs.Print.{decimal}
 use Rattle.spec_numbers.proofs.PrintLaws.{decimal-length}
 use Rattle.spec_sheet.specs.Row.{lengthOf}
@@ -26,7 +26,9 @@ use Rattle.spec_listing.specs.Options.{Options}
 use Rattle.spec_listing.specs.Line.{instructionText}
 use Rattle.spec_listing.specs.Labels.{labelOffsets}
 use Rattle.spec_listing.specs.Listing.{labelLine, labelText, instructionLine, longLine, listedText}
-use Rattle.listing.specs.Parts.{Decodes, recordsOf, Flagged, flaggedText, optionsOf}
+use Rattle.listing.specs.Parts.{Decodes, recordsOf, Flagged, blockSize, lineStart, RoomMade, flaggedText, optionsOf}
+use Rattle.listing.specs.Parts.RoomMade.{gone, stays}
+use Rattle.listing.specs.declared.body_lines.Gathered.{Gathered}
 use Rattle.listing.specs.declared.options.Options as declared
 
 -- the records of a body that decodes
@@ -91,30 +93,29 @@ bare p r = p .indent ++ textIn p r
 abbrev pub longIn : Printing → List (List ℕ) → Found
 longIn p rs = longLine (p .o) (p .e) (p .indent) rs
 
--- the records behind `at` are still to be written, and none before them has too long a line
-pub record Going (p : Printing) (rs : List (List ℕ)) (out₀ : List ℕ) («from» : ℕ) (out : List ℕ) (k at : ℕ) : Type 0 where
+-- the records behind `at` are still to be written, behind what the block holds, and none before them has too long a line
+pub record Going (p : Printing) (rs : List (List ℕ)) (out₀ : List ℕ) («from» : ℕ) (out block : List ℕ) (k n at : ℕ) : Type 0 where
   pub rest : List (List ℕ)
   pub stand : Decoding (p .types) (p .last) (p .s) at rest
-  pub writing : Left (linesIn p rs) out₀ «from» (linesIn p rest) out k
+  pub writing : Left (linesIn p rs) out₀ «from» (take n block ++ linesIn p rest) out k
   pub long : longIn p rs ≡ longIn p rest
-  pub low : k ≤ «from» + at * 8192
+  pub size : length block ≡ blockSize
+  pub held : n ≤ blockSize
 
--- the label's line and the instruction's were written, from k over a to c
-pub record Line (p : Printing) (at : ℕ) (out : List ℕ) (k : ℕ) (out′ : List ℕ) (a c : ℕ) : Type 0 where
-  pub o₁ : List ℕ
-  pub label-put : Put out k (flaggedText (p .o .showLabels) (p .flags) (p .indent) at) o₁ a
-  pub o₂ : List ℕ
+-- the label's line and the instruction's were written, from n over a to c
+pub record Line (p : Printing) (at : ℕ) (block : List ℕ) (n : ℕ) (block′ : List ℕ) (a c : ℕ) : Type 0 where
+  pub b₁ : List ℕ
+  pub label-put : ByWords block n (flaggedText (p .o .showLabels) (p .flags) (p .indent) at) b₁ a
+  pub b₂ : List ℕ
   pub b : ℕ
-  pub indent-put : Put o₁ a (p .indent) o₂ b
-  pub text-put : Put o₂ b (textIn p (recordAt p at)) out′ c
+  pub indent-put : Put b₁ a (p .indent) b₂ b
+  pub text-put : ByWords b₂ b (textIn p (recordAt p at)) block′ c
 
 -- what the loop is given
-pub record Given (p : Printing) («from» : ℕ) : Type 0 where
+pub record Given (p : Printing) : Type 0 where
   pub marked : Flagged (p .flags) (p .labels)
   pub flags-room : length (p .s) ≤ length (p .flags)
-  pub body-size : length (p .s) ≤ 65536
   pub indent-size : length (p .indent) ≤ 2
-  pub from-small : «from» ≤ 2097152
 
 -- the record that stands at a place inside the body, and those behind it
 data Next (types : List (List ℕ)) (last : ℕ) (s : List ℕ) (at : ℕ) (rest : List (List ℕ)) : Type 0 where
@@ -130,10 +131,10 @@ none-left (ended g) h = refl
 none-left (more g l k d) h = absurd (omega arith)
 
 -- a line is within the limit, or too long, by the positions around it
-line-size : (a n c : ℕ) → a ≤ 2 ^ 40 → c ≡ min (a + n) top → c - a ≤ 4096 → (n ≤ 4096) × (c ≡ a + n)
+line-size : (a n c : ℕ) → a ≤ 12030 → c ≡ min (a + n) top → c - a ≤ 4096 → (n ≤ 4096) × (c ≡ a + n)
 line-size a n c h e k = (omega (arith, e), omega (arith, e))
 
-line-over : (a n c : ℕ) → a ≤ 2 ^ 40 → c ≡ min (a + n) top → 4096 < c - a → 4096 < n
+line-over : (a n c : ℕ) → a ≤ 12030 → c ≡ min (a + n) top → 4096 < c - a → 4096 < n
 line-over a n c h e k = omega (arith, e)
 
 -- the lines of a record are its label's and its own
@@ -149,8 +150,8 @@ line-long : (p : Printing) (r : List ℕ) (rest : List (List ℕ)) → 4096 < le
 unfolding longLine instructionLine
 line-long p r rest h = rw (lt-ltb 4096 (length (bare p r)) h)
 
-own-line : {p : Printing} {at k a c : ℕ} {out out′ : List ℕ} (l : Line p at out k out′ a c) → Put (l .o₁) a (bare p (recordAt p at)) out′ c
-own-line l = l .indent-put then l .text-put
+own-line : {p : Printing} {at n a c : ℕ} {block block′ : List ℕ} (l : Line p at block n block′ a c) → ByWords (l .b₁) a (bare p (recordAt p at)) block′ c
+own-line l = as-words (l .indent-put) and-words l .text-put
 
 inside-next : (p : Printing) {at : ℕ} {rest : List (List ℕ)} → Next (p .types) (p .last) (p .s) at rest → at + sizeAt p at ≤ length (p .s)
 inside-next p (one rest′ q y z d) = z
@@ -162,58 +163,74 @@ long-from : (p : Printing) {at : ℕ} {rest : List (List ℕ)} → Next (p .type
 long-from p (one rest′ q y z d) h = rw q (line-long p (recordAt p _) rest′ h)
 
 module _ {p : Printing} {rs : List (List ℕ)} {out₀ : List ℕ} {«from» : ℕ} where
-  pub start : Decoding (p .types) (p .last) (p .s) 0 rs → length out₀ ≤ top → «from» ≤ top → Going p rs out₀ «from» out₀ «from» 0
-  start d h g = record { rest = rs; stand = d; writing = left-all h g; long = refl; low = omega arith }
+  pub start : (block : List ℕ) → Decoding (p .types) (p .last) (p .s) 0 rs → length out₀ ≤ top → «from» ≤ top → length block ≡ blockSize → Going p rs out₀ «from» out₀ block «from» 0 0
+  start block d h g l = record { rest = rs; stand = d; writing = left-all h g; long = refl; size = l; held = omega arith }
 
-  -- an instruction that is reached is whole
-  pub inside : {out : List ℕ} {k at : ℕ} → Going p rs out₀ «from» out k at → at < length (p .s) → at + sizeAt p at ≤ length (p .s)
-  inside g h = inside-next p (next (g .stand) h)
+  module _ {out block : List ℕ} {k n at : ℕ} (g : Going p rs out₀ «from» out block k n at) where
+    -- an instruction that is reached is whole
+    pub inside : at < length (p .s) → at + sizeAt p at ≤ length (p .s)
+    inside h = inside-next p (next (g .stand) h)
 
-  -- and its opcode is one of the sheet's
-  pub known : {out : List ℕ} {k at : ℕ} → Going p rs out₀ «from» out k at → at < length (p .s) → getD (p .s) at 0 ≤ p .last
-  known g h = known-next p (next (g .stand) h)
+    -- and its opcode is one of the sheet's
+    pub known : at < length (p .s) → getD (p .s) at 0 ≤ p .last
+    known h = known-next p (next (g .stand) h)
 
-  -- where a line starts, counting did not stop
-  low-start : {at k a c : ℕ} {out out′ : List ℕ} → Given p «from» → Going p rs out₀ «from» out k at → at < length (p .s) → Line p at out k out′ a c → (a ≤ k + 30) × (a ≤ 2 ^ 40)
-  low-start {at} m g h l =
-      let w = l .label-put .next in
-      let q = label-short (p .o .showLabels) (p .flags) (p .indent) at (m .indent-size) in
-      let z = g .low in
-      let y = m .from-small in
-      let x = m .body-size in
-      (omega (arith, w, q), omega (arith, w, q, z, y, x))
-
-  pub stopped : {at k a c : ℕ} {out out′ : List ℕ} → Given p «from» → Going p rs out₀ «from» out k at → at < length (p .s) → Line p at out k out′ a c → 4096 < c - a
-      → longIn p rs ≡ found at
-  stopped {at} {k} {a} {c} m g h l q =
-      g .long ∙ long-from p (next (g .stand) h) (line-over a _ c (low-start m g h l .1) (own-line l .next) q)
-
-  turn-on : {at k a c k′ : ℕ} {out out′ out″ : List ℕ} → Given p «from» → (g : Going p rs out₀ «from» out k at) → at < length (p .s) → Line p at out k out′ a c → c - a ≤ 4096
-      → Put out′ c (10 ∷ []) out″ k′ → Next (p .types) (p .last) (p .s) at (g .rest) → Going p rs out₀ «from» out″ k′ (at + sizeAt p at)
-  turn-on {at} {k} {a} {c} m g h l q w (one rest′ y x z d) =
-      let size = line-size a (length (bare p (recordAt p at))) c (low-start m g h l .1) (own-line l .next) q in
+    -- room for a line was made
+    pub roomy : {out′ : List ℕ} {r : Gathered} → RoomMade block n out k out′ r → (r .kept ≤ lineStart) × Going p rs out₀ «from» out′ block (r .next) (r .kept) at
+    roomy {out′} {r} (gone w z) = (
+      omega (arith, z),
       record {
-        rest = rest′;
-        stand = d;
-        writing = left-turn (g .writing) (ap (linesIn p) y ∙ lines-more p (recordAt p at) rest′)
-            ((same-piece (marked-label (p .o) (p .labels) (p .flags) (p .indent) at (m .marked) (omega (arith, m .flags-room))) (l .label-put) then own-line l) then w);
-        long = g .long ∙ (ap (longIn p) y ∙ line-fits p (recordAt p at) rest′ (size .0));
-        low = omega (arith, w .next, low-start m g h l .0, g .low);
-      }
+        rest = g .rest;
+        stand = g .stand;
+        writing = left-same (ap (λ (m : ℕ). take m block ++ linesIn p (g .rest)) (sym z)) (left-turn (g .writing) refl w);
+        long = g .long;
+        size = g .size;
+        held = omega (arith, z);
+      },
+    )
+    roomy {out′} {r} (stays h e y z) = (omega (arith, z), rw (e, y, z) g)
 
-  pub turn : {at k a c k′ size : ℕ} {out out′ out″ : List ℕ} → Given p «from» → Going p rs out₀ «from» out k at → at < length (p .s) → Line p at out k out′ a c → c - a ≤ 4096
-      → Put out′ c (10 ∷ []) out″ k′ → size ≡ sizeAt p at → Going p rs out₀ «from» out″ k′ (at + size)
-  turn m g h l q w z = rw z (turn-on m g h l q w (next (g .stand) h))
+    module _ {block′ : List ℕ} {a c : ℕ} (m : Given p) (few : n ≤ lineStart) (l : Line p at block n block′ a c) where
+      -- where a line starts
+      low-start : (a ≤ 12030) × (a ≡ n + length (flaggedText (p .o .showLabels) (p .flags) (p .indent) at))
+      low-start =
+          let q = label-short (p .o .showLabels) (p .flags) (p .indent) at (m .indent-size) in
+          (omega (arith, l .label-put .next, q), omega (arith, l .label-put .next, q))
 
-  pub finished : {at k : ℕ} {out : List ℕ} → Going p rs out₀ «from» out k at → length (p .s) ≤ at → (longIn p rs ≡ missing) × Put out₀ «from» (linesIn p rs) out k
-  unfolding longLine listedText
-  finished g h =
-      let q = none-left (g .stand) h in
-      (g .long ∙ ap (longIn p) q, left-none (g .writing) (ap (linesIn p) q))
+      pub stopped : at < length (p .s) → 4096 < c - a → longIn p rs ≡ found at
+      stopped h q = g .long ∙ long-from p (next (g .stand) h) (line-over a _ c (low-start .0) (own-line l .next) q)
+
+      turn-on : {block″ : List ℕ} {n′ : ℕ} → at < length (p .s) → c - a ≤ 4096 → Put block′ c (10 ∷ []) block″ n′ → Next (p .types) (p .last) (p .s) at (g .rest)
+          → Going p rs out₀ «from» out block″ k n′ (at + sizeAt p at)
+      turn-on {block″} {n′} h q w (one rest′ y x z d) =
+          let r = recordAt p at in
+          let label = labelText (p .o) (p .labels) (p .indent) at in
+          let e = marked-label (p .o) (p .labels) (p .flags) (p .indent) at (m .marked) (omega (arith, m .flags-room)) in
+          let size = line-size a (length (bare p r)) c (low-start .0) (own-line l .next) q in
+          let whole = same-ahead e (l .label-put) and-words own-line l and-words as-words w in
+          let f : n + length (label ++ bare p r ++ (10 ∷ [])) ≤ length block = omega (arith, length-append (label ++ bare p r) (10 ∷ []), length-append label (bare p r), low-start, ap length e, size, g .size, few) in
+          let t = ahead-front whole f in
+          record {
+            rest = rest′;
+            stand = d;
+            writing = left-same (ap (λ (u : List ℕ). take n block ++ u) (ap (linesIn p) y ∙ lines-more p r rest′) ∙ (sym (append-assoc (take n block) (label ++ bare p r ++ (10 ∷ [])) (linesIn p rest′)) ∙ ap (λ (u : List ℕ). u ++ linesIn p rest′) (sym t))) (g .writing);
+            long = g .long ∙ (ap (longIn p) y ∙ line-fits p r rest′ (size .0));
+            size = ahead-length whole ∙ g .size;
+            held = omega (arith, w .next, size, low-start);
+          }
+
+      pub turn : {block″ : List ℕ} {n′ size : ℕ} → at < length (p .s) → c - a ≤ 4096 → Put block′ c (10 ∷ []) block″ n′ → size ≡ sizeAt p at → Going p rs out₀ «from» out block″ k n′ (at + size)
+      turn h q w z = rw z (turn-on h q w (next (g .stand) h))
+
+    pub finished : {out′ : List ℕ} {r : ℕ} → length (p .s) ≤ at → Put out k (take n block) out′ r → (longIn p rs ≡ missing) × Put out₀ «from» (linesIn p rs) out′ r
+    unfolding longLine listedText
+    finished h w =
+        let q = none-left (g .stand) h in
+        (g .long ∙ ap (longIn p) q, left-none (left-turn (g .writing) refl w) (ap (linesIn p) q))
 
 -- positions do not fall
-pub put-rises : {out out′ t : List ℕ} {a c : ℕ} → Put out a t out′ c → a ≤ top → a ≤ c
-put-rises w h = omega (arith, w .next)
+pub words-rise : {out out′ t : List ℕ} {a c : ℕ} → ByWords out a t out′ c → a ≤ top → a ≤ c
+words-rise w h = omega (arith, w .next)
 
 -- the printing that the function is given part by part
 abbrev pub printing : declared.Options → List ℕ → List (List ℕ) → List (List ℕ) → ℕ → List ℕ → List ℕ → List ℕ → List ℕ → List ℕ → Printing
@@ -228,9 +245,8 @@ printing options source types ops last bytes ends s flags indent = record {
   s = s;
 }
 
-pub given : (p : Printing) {«from» : ℕ} → Flagged (p .flags) (p .labels)
-    → (length (p .s) ≤ length (p .flags)) × (length (p .s) ≤ 65536) × (length (p .indent) ≤ 2) × («from» ≤ 2097152) → Given p «from»
-given p m h = record { marked = m; flags-room = h .0; body-size = h .1; indent-size = h .2; from-small = h .3 }
+pub given : (p : Printing) → Flagged (p .flags) (p .labels) → (length (p .s) ≤ length (p .flags)) × (length (p .s) ≤ 65536) × (length (p .indent) ≤ 2) → Given p
+given p m h = record { marked = m; flags-room = h .0; indent-size = h .2 }
 
 pub fits-next : (at size n : ℕ) → at + size ≤ n → n ≤ 65536 → at + size < 2 ^ 64
 fits-next at size n h k = omega arith

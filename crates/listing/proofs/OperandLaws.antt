@@ -1,25 +1,28 @@
 -- The text of one operand, by its family. Assumes nothing.
-use mathlib.Core.Path.{_≡_, refl}
+use mathlib.Core.Path.{_≡_, refl, ap, _∙_}
 use mathlib.Core.Bool.{Bool, true, false}
-use mathlib.Core.List.{List, _∷_}
-use Prim.Native.Nat.{ℕ, _-_, _^_, _≤_, _<_}
+use mathlib.Core.List.{List, _++_, append-assoc}
+use Prim.Native.Nat.{ℕ, suc, _-_, _^_, _≤_, _<_}
+use native.Mathlib.Nat.{lt-of-lt-of-le, pow-le-pow-right}
 use native.Mathlib.Omega.{arith}
-use lib.Dec.{eqb, ltb}
+use lib.Dec.{eqb, ltb, leb}
 use lib.ListN.{length, List·getD-eq-default}
-use borrow.Author.Tests.{eqb-true, eq-eqb, ne-eqb}
-use Rattle.lists.specs.Choice.{pick}
+use borrow.Author.Tests.{ltb-true, leb-true, lt-ltb, le-ltb, le-leb, ne-eqb}
+use Rattle.lists.specs.Choice.{pick, both}
 use Rattle.lists.specs.Scan.{part}
-use Rattle.lists.proofs.Tests.{by-leb}
+use Rattle.lists.proofs.Tests.{by-leb, by-eqb, both-left, both-right, true-not-false}
+use Rattle.spec_numbers.specs.LittleEndian.{leBytes}
 use Rattle.spec_numbers.specs.Print.{decimal, signedDecimal}
 use Rattle.spec_numbers.specs.TwosComplement.{signed}
 use Rattle.spec_numbers.specs.Double.{printDouble}
-use Rattle.spec_sheet.specs.Types.{widthOf, familyOf, families}
+use Rattle.spec_sheet.specs.Types.{widths, widthOf, familyOf}
 use Rattle.spec_sheet.proofs.TypeLaws.{below, implies, by-codes}
 use Rattle.spec_strings.specs.Table.{textOf, entryStart, entryEnd}
 use Rattle.spec_strings.specs.Escape.{quoted}
 use Rattle.strings.specs.Answers.{entryOf}
 use Rattle.strings.specs.declared.table.Entry.the-variants as Entry
 use Rattle.spec_listing.specs.Operand.{targetOf, stringText, operandText}
+use Rattle.listing.specs.Numbers.{frontText, valueText}
 
 -- an id with a text, one without, and one whose text is not shown
 module _ (bytes ends : List ℕ) (id : ℕ) where
@@ -46,41 +49,47 @@ module _ (bytes ends : List ℕ) (id : ℕ) where
   unfolding stringText
   id-hidden = refl
 
--- the only code of its family is Imm32
-family-immediate : (code : ℕ) → familyOf code ≡ 5 → code ≡ 11
-unfolding below implies familyOf
-family-immediate code f =
-    by-leb code 12
-    (λ l. eqb-true code 11 (by-codes (λ d. eqb (familyOf d) 5) (λ d. eqb d 11) refl code l (eq-eqb (familyOf code) 5 f)))
-    (λ l. let z : length families ≤ code = omega arith in absurd (omega (arith, f, List·getD-eq-default families 0 z)))
+-- an operand that is no double has at most 32 bits
+pub short-bits : (code bits : ℕ) → familyOf code ≤ 5 → bits < 256 ^ widthOf code → bits < 4294967296
+unfolding below implies familyOf widthOf
+short-bits code bits f h =
+    let w : widthOf code ≤ 4 = by-leb code 12
+    (λ l. leb-true (widthOf code) 4 (by-codes (λ d. leb (familyOf d) 5) (λ d. leb (widthOf d) 4) refl code l (le-leb (familyOf code) 5 f)))
+    (λ l. let z : length widths ≤ code = omega arith in omega (arith, List·getD-eq-default widths 0 z)) in
+    lt-of-lt-of-le h (pow-le-pow-right {n = 256} (omega arith) w)
 
--- an Imm32 has 32 bits
-pub immediate-bits : (code bits : ℕ) → familyOf code ≡ 5 → bits < 256 ^ widthOf code → bits < 2 ^ 32
-unfolding widthOf
-immediate-bits code bits f h = rw (family-immediate code f) at h
+-- a number with its sign is the sign and the digits
+pub signed-text : (b : Bool) (n : ℕ) → n < 4294967296
+    → leBytes (pick (both b (ltb 2147483647 n)) 1 0) 45 ++ decimal (pick (both b (ltb 2147483647 n)) (4294967296 - n) n) ≡ pick b (signedDecimal (signed 32 n)) (decimal n)
+unfolding leBytes signedDecimal
+signed-text false n h = refl
+signed-text true n h =
+    by-leb n 2147483647 (λ l. rw (le-ltb 2147483647 n l, lt-ltb n 2147483648 (omega arith)) refl)
+    (λ l. let e : suc (4294967296 - suc n) ≡ 4294967296 - n = omega arith in rw (lt-ltb 2147483647 n l, le-ltb n 2147483648 (omega arith), e) refl)
+
+-- a number with what stands in front of it is three pieces
+pub number-parts : (family n : ℕ) → n < 4294967296
+    → frontText family ++ leBytes (pick (both (ltb 3 family) (ltb 2147483647 n)) 1 0) 45 ++ decimal (pick (both (ltb 3 family) (ltb 2147483647 n)) (4294967296 - n) n) ≡ frontText family ++ valueText family n
+unfolding valueText
+number-parts family n h = append-assoc (frontText family) _ _ ∙ ap (λ (t : List ℕ). frontText family ++ t) (signed-text (ltb 3 family) n h)
 
 -- by family
 module _ (texts : Bool) (bytes ends : List ℕ) (at code bits : ℕ) where
-  pub of-register : familyOf code ≡ 1 → 114 ∷ decimal bits ≡ operandText texts bytes ends at code bits
-  unfolding operandText
-  of-register f = rw f
-
-  pub of-number : familyOf code ≡ 2 → decimal bits ≡ operandText texts bytes ends at code bits
-  unfolding operandText
-  of-number f = rw f
+  pub of-number : (familyOf code ≡ 3 → ⊥) → both (ltb 0 (familyOf code)) (leb (familyOf code) 5) ≡ true
+      → frontText (familyOf code) ++ valueText (familyOf code) (pick (eqb (familyOf code) 4) (targetOf at code bits) bits) ≡ operandText texts bytes ends at code bits
+  unfolding operandText frontText valueText
+  of-number n b =
+      let l : 0 < familyOf code = ltb-true 0 (familyOf code) (both-left _ _ b) in
+      let m : familyOf code ≤ 5 = leb-true (familyOf code) 5 (both-right (ltb 0 (familyOf code)) _ b) in
+      by-eqb (familyOf code) 1 (λ e. rw e refl)
+      (λ x. by-eqb (familyOf code) 2 (λ e. rw e refl) (λ y. by-eqb (familyOf code) 4 (λ e. rw e refl) (λ z. by-eqb (familyOf code) 5 (λ e. rw e refl) (λ w. absurd (omega arith)))))
 
   pub of-string : familyOf code ≡ 3 → stringText texts bytes ends bits ≡ operandText texts bytes ends at code bits
   unfolding operandText
   of-string f = rw f
 
-  pub of-address : (target : ℕ) → familyOf code ≡ 4 → target ≡ targetOf at code bits → 76 ∷ signedDecimal (signed 32 target) ≡ operandText texts bytes ends at code bits
+  pub of-double : (familyOf code ≡ 3 → ⊥) → both (ltb 0 (familyOf code)) (leb (familyOf code) 5) ≡ false → printDouble bits ≡ operandText texts bytes ends at code bits
   unfolding operandText
-  of-address target f e = rw (f, e)
-
-  pub of-immediate : familyOf code ≡ 5 → signedDecimal (signed 32 bits) ≡ operandText texts bytes ends at code bits
-  unfolding operandText
-  of-immediate f = rw f
-
-  pub of-double : (familyOf code ≡ 1 → ⊥) → (familyOf code ≡ 2 → ⊥) → (familyOf code ≡ 3 → ⊥) → (familyOf code ≡ 4 → ⊥) → (familyOf code ≡ 5 → ⊥) → printDouble bits ≡ operandText texts bytes ends at code bits
-  unfolding operandText
-  of-double a b c d e = rw (ne-eqb _ 1 a, ne-eqb _ 2 b, ne-eqb _ 3 c, ne-eqb _ 4 d, ne-eqb _ 5 e)
+  of-double n b =
+      let other : (f : ℕ) → both (ltb 0 f) (leb f 5) ≡ true → familyOf code ≡ f → ⊥ = λ f t e. true-not-false _ (rw e t) b in
+      rw (ne-eqb _ 1 (other 1 refl), ne-eqb _ 2 (other 2 refl), ne-eqb _ 3 n, ne-eqb _ 4 (other 4 refl), ne-eqb _ 5 (other 5 refl))

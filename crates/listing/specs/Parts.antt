@@ -2,9 +2,9 @@
 use mathlib.Core.Path.{_≡_}
 use mathlib.Core.Bool.{Bool}
 use mathlib.Core.List.{List, []}
-use Prim.Native.Nat.{ℕ, _<_}
+use Prim.Native.Nat.{ℕ, _≤_, _<_}
 use lib.Dec.{eqb}
-use lib.ListN.{length, getD}
+use lib.ListN.{length, take, getD}
 use Rattle.lists.specs.Choice.{pick, both}
 use Rattle.lists.specs.Found.{Found}
 use Rattle.lists.specs.Found.Found.{found, missing}
@@ -16,6 +16,7 @@ use Rattle.spec_listing.specs.Labels.{among}
 use Rattle.spec_listing.specs.Listing.{labelLine}
 use Rattle.listing.specs.declared.body_lines.Lines.{Lines}
 use Rattle.listing.specs.declared.body_lines.Lines.the-variants as lines
+use Rattle.listing.specs.declared.body_lines.Gathered.{Gathered}
 use Rattle.listing.specs.declared.options.Options as declared
 
 -- a body that decodes, and its records
@@ -47,3 +48,15 @@ optionsOf o = optionsFrom (o .«show_offsets») (o .«show_labels») (o .«resol
 pub data Lined (t : List ℕ) (long : Found) (out : List ℕ) («from» : ℕ) (out′ : List ℕ) (r : Lines) : Type 0 where
   all : (k : ℕ) → long ≡ missing → r ≡ lines.To k → Put out «from» t out′ k → Lined t long out «from» out′ r
   over : (at : ℕ) → long ≡ found at → r ≡ lines.Long at → Lined t long out «from» out′ r
+
+-- how long a block is that lines are gathered in, and where the last line in it starts at most
+abbrev pub blockSize : ℕ
+blockSize = 16384
+
+abbrev pub lineStart : ℕ
+lineStart = 12000
+
+-- the n bytes of a block were written at `k` and are kept no more, or have room for a line behind them: the buffer was `out` and is `out′`
+pub data RoomMade (block : List ℕ) (n : ℕ) (out : List ℕ) (k : ℕ) (out′ : List ℕ) (r : Gathered) : Type 0 where
+  gone : Put out k (take n block) out′ (r .next) → r .kept ≡ 0 → RoomMade block n out k out′ r
+  stays : n ≤ lineStart → out′ ≡ out → r .next ≡ k → r .kept ≡ n → RoomMade block n out k out′ r

@@ -1,8 +1,8 @@
 // The listing of one body, before its length and the lent space are looked at.
 ghost use mathlib.Core.Path.{_≡_};
-ghost use Prim.Native.Nat.{_*_, _≤_};
+ghost use Prim.Native.Nat.{_≤_};
 ghost use lib.ListN.{length, replicate};
-ghost use Rattle.limits.specs.Limits.{bodyLimit, listingLimit};
+ghost use Rattle.limits.specs.Limits.{bodyLimit};
 ghost use Rattle.spec_body.specs.Decode.{decodeBody};
 ghost use Rattle.spec_listing.specs.Listing.{listDecoded};
 ghost use Rattle.lists.specs.Choice.{pick};
@@ -41,6 +41,14 @@ fn entries_for(labels: bool, n: usize) -> usize
     if labels { n } else { 0 }
 }
 
+// How many entries are lent as far as counting goes. Where labels are not shown none is needed, and no body has more labels than this,
+// so that those far outside are not told apart for nothing.
+fn counted_lent(labels: bool, lent: usize) -> usize
+    ensures { λ r. ⌜ r ≡ pick labels lent bodyLimit ⌝ }
+{
+    if labels { lent } else { limits::BODY_LIMIT }
+}
+
 // Where a part starts in the output, and how many label entries are lent.
 pub struct Room {
     pub from: usize,
@@ -65,10 +73,10 @@ fn list_flagged(
 ) -> Part
     requires { ⌜ now flags ≡ replicate (length (now flags)) 0 ⌝ }
     requires { ⌜ OpcodeRows (now sheet) (now types) (now ops) last (now rows) ⌝ }
-    requires { ⌜ (length (now s) ≤ length (now flags)) × (length (now flags) ≤ bodyLimit) × (length (now indent) ≤ 2) × (room .«from» ≤ 2 * listingLimit) ⌝ }
+    requires { ⌜ (length (now s) ≤ length (now flags)) × (length (now flags) ≤ bodyLimit) × (length (now indent) ≤ 2) ⌝ }
     ensures { λ r. ⌜ Written (room .lent) (listDecoded (optionsOf options) (contextFrom (now (sheet .entry)) (now (types .entry)) (now (ops .entry)) (now (bytes .entry)) (now (ends .entry))) (now (indent .entry)) (decodeBody (now (types .entry)) last (now (s .entry)))) (now (out .entry)) (room .«from») (now (out .exit)) r ⌝ }
 {
-    let lent = room.lent;
+    let lent = counted_lent(options.show_labels, room.lent);
     let from = room.from;
     let c = list_labels::collect::collect_label_offsets(types, rows, last, s, lent, flags);
     match c {
@@ -125,7 +133,7 @@ pub fn list_body(
     out: &mut [u8],
 ) -> Part
     requires { ⌜ OpcodeRows (now sheet) (now types) (now ops) last (now rows) ⌝ }
-    requires { ⌜ (length (now s) ≤ bodyLimit) × (length (now indent) ≤ 2) × (room .«from» ≤ 2 * listingLimit) ⌝ }
+    requires { ⌜ (length (now s) ≤ bodyLimit) × (length (now indent) ≤ 2) ⌝ }
     ensures { λ r. ⌜ Written (room .lent) (listDecoded (optionsOf options) (contextFrom (now (sheet .entry)) (now (types .entry)) (now (ops .entry)) (now (bytes .entry)) (now (ends .entry))) (now (indent .entry)) (decodeBody (now (types .entry)) last (now (s .entry)))) (now (out .entry)) (room .«from») (now (out .exit)) r ⌝ }
 {
     if s.len() <= SMALL_BODY {

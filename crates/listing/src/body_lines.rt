@@ -1,17 +1,18 @@
 // All lines of a body that decodes.
-ghost use Prim.Native.Nat.{_*_, _<_, _≤_};
+ghost use Prim.Native.Nat.{_<_, _≤_};
 ghost use lib.ListN.{length};
-ghost use Rattle.limits.specs.Limits.{bodyLimit, listingLimit};
-ghost use Rattle.lists.specs.Write.{Put};
+ghost use Rattle.limits.specs.Limits.{bodyLimit};
+ghost use Rattle.lists.specs.Write.{ByWords};
 ghost use Rattle.spec_body.specs.Decode.{decodeBody};
 ghost use Rattle.spec_listing.specs.Labels.{labelOffsets};
 ghost use Rattle.spec_listing.specs.Listing.{labelLine, longLine, listedText};
-ghost use Rattle.listing.specs.Parts.{Decodes, Flagged, recordsOf, Lined, flaggedText, optionsOf};
+ghost use Rattle.listing.specs.Parts.{Decodes, Flagged, recordsOf, Lined, RoomMade, flaggedText, optionsOf};
 ghost use Rattle.spec_inputs.specs.Context.{contextFrom};
 ghost use Rattle.list_labels.specs.OpcodeRows.{Sized};
 use crate::options::Options;
 use list_labels::opcode_rows::SIZE;
-use numbers::print_decimal::put_decimal;
+use numbers::little_endian::put_word;
+use numbers::print_words::put_decimal;
 use slices::widen::byte_index;
 use slices::write::put_byte;
 use slices::write::put_bytes;
@@ -22,13 +23,39 @@ pub enum Lines {
     Long(usize),
 }
 
+// Lines are gathered in a block, where what stands behind them does not matter, and go to the output a block at once. So a line is
+// written by words, whatever room the output has.
+const BLOCK: usize = 16384;
+
+// Where a block may be and still have room for a line: the label's, an instruction of the most bytes, and LF.
+const LINE_START: usize = 12000;
+
+// The next position of the output, and how many bytes of the block are still to be written there.
+struct Gathered {
+    next: usize,
+    kept: usize,
+}
+
+// Writes the n bytes of a block at k, where a line may not fit behind them.
+fn make_room(out: &mut [u8], k: usize, block: &[u8], n: usize) -> Gathered
+    requires { ⌜ n ≤ length (now block) ⌝ }
+    ensures { λ r. ⌜ RoomMade (now (block .entry)) n (now (out .entry)) k (now (out .exit)) r ⌝ }
+{
+    if LINE_START < n {
+        let next = put_bytes(out, k, &block[0..n]);
+        return Gathered { next, kept: 0 };
+    }
+    Gathered { next: k, kept: n }
+}
+
 fn put_label(out: &mut [u8], k: usize, indent: &[u8], at: usize) -> usize
-    ensures { λ r. ⌜ Put (now (out .entry)) k (labelLine (now (indent .entry)) at) (now (out .exit)) r ⌝ }
+    requires { ⌜ at ≤ bodyLimit ⌝ }
+    ensures { λ r. ⌜ ByWords (now (out .entry)) k (labelLine (now (indent .entry)) at) (now (out .exit)) r ⌝ }
 {
     let a = put_bytes(out, k, indent);
-    let b = put_bytes(out, a, b"L");
+    let b = put_word(out, a, 1, 76);
     let c = put_decimal(out, b, at as u64);
-    put_bytes(out, c, b":\n")
+    put_word(out, c, 2, 0x0a3a)
 }
 
 // The label's line, where labels are shown and its flag is set.
@@ -40,8 +67,8 @@ fn put_flagged_label(
     indent: &[u8],
     at: usize,
 ) -> usize
-    requires { ⌜ at < length (now flags) ⌝ }
-    ensures { λ r. ⌜ Put (now (out .entry)) k (flaggedText labels (now (flags .entry)) (now (indent .entry)) at) (now (out .exit)) r ⌝ }
+    requires { ⌜ (at < length (now flags)) × (at ≤ bodyLimit) ⌝ }
+    ensures { λ r. ⌜ ByWords (now (out .entry)) k (flaggedText labels (now (flags .entry)) (now (indent .entry)) at) (now (out .exit)) r ⌝ }
 {
     if labels {
         if flags[at] == 1 {
@@ -51,7 +78,7 @@ fn put_flagged_label(
     k
 }
 
-// Writes all lines. The caller keeps `from` small, so that a line's length is known from the two positions around it.
+// Writes all lines. A line's length is known from the two positions around it.
 pub(crate) fn list_lines(
     options: Options,
     sheet: &[u8],
@@ -69,22 +96,27 @@ pub(crate) fn list_lines(
 ) -> Lines
     requires { ⌜ Decodes (now types) last (now s) × Sized (now types) last (now rows) ⌝ }
     requires { ⌜ Flagged (now flags) (labelOffsets (contextFrom (now sheet) (now types) (now ops) (now bytes) (now ends)) (recordsOf (decodeBody (now types) last (now s)))) ⌝ }
-    requires { ⌜ (length (now s) ≤ length (now flags)) × (length (now s) ≤ bodyLimit) × (length (now indent) ≤ 2) × («from» ≤ 2 * listingLimit) ⌝ }
+    requires { ⌜ (length (now s) ≤ length (now flags)) × (length (now s) ≤ bodyLimit) × (length (now indent) ≤ 2) ⌝ }
     ensures { λ r. ⌜ Lined
         (listedText (optionsOf options) (contextFrom (now (sheet .entry)) (now (types .entry)) (now (ops .entry)) (now (bytes .entry)) (now (ends .entry))) (labelOffsets (contextFrom (now (sheet .entry)) (now (types .entry)) (now (ops .entry)) (now (bytes .entry)) (now (ends .entry))) (recordsOf (decodeBody (now (types .entry)) last (now (s .entry))))) (now (indent .entry)) (recordsOf (decodeBody (now (types .entry)) last (now (s .entry)))))
         (longLine (optionsOf options) (contextFrom (now (sheet .entry)) (now (types .entry)) (now (ops .entry)) (now (bytes .entry)) (now (ends .entry))) (now (indent .entry)) (recordsOf (decodeBody (now (types .entry)) last (now (s .entry)))))
         (now (out .entry)) «from» (now (out .exit)) r ⌝ }
 {
+    let mut block = [0u8; BLOCK];
+    let mut n: usize = 0;
     let mut k = from;
     let mut at: usize = 0;
     while at < s.len() {
+        let gathered = make_room(out, k, &block, n);
+        k = gathered.next;
+        n = gathered.kept;
         let op = s[at] as usize;
         let row = rows[op];
         let size = byte_index(row[SIZE]);
-        let a = put_flagged_label(out, k, options.show_labels, flags, indent, at);
-        let b = put_bytes(out, a, indent);
+        let a = put_flagged_label(&mut block, n, options.show_labels, flags, indent, at);
+        let b = put_bytes(&mut block, a, indent);
         let c = crate::instruction::put_instruction(
-            out,
+            &mut block,
             b,
             options,
             sheet,
@@ -98,8 +130,8 @@ pub(crate) fn list_lines(
         if limits::LINE_LIMIT < c - a {
             return Lines::Long(at);
         }
-        k = put_byte(out, c, 10);
+        n = put_byte(&mut block, c, 10);
         at += size;
     }
-    Lines::To(k)
+    Lines::To(put_bytes(out, k, &block[0..n]))
 }

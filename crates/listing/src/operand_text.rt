@@ -1,33 +1,32 @@
 // Operands as they are listed: format_operand of disasm.rs.
-ghost use mathlib.Core.List.{_∷_};
-ghost use Prim.Native.Nat.{_+_, _^_, _<_, _≤_};
-ghost use lib.Dec.{eqb};
+ghost use mathlib.Core.Path.{_≡_};
+ghost use mathlib.Core.List.{_++_};
+ghost use Prim.Native.Nat.{_+_, _-_, _^_, _<_, _≤_};
+ghost use lib.Dec.{eqb, ltb, leb};
 ghost use lib.ListN.{length};
 ghost use Rattle.limits.specs.Limits.{bodyLimit};
-ghost use Rattle.lists.specs.Choice.{pick};
+ghost use Rattle.lists.specs.Choice.{pick, both};
 ghost use Rattle.lists.specs.Text.{text};
-ghost use Rattle.lists.specs.Write.{Put};
-ghost use Rattle.spec_numbers.specs.Print.{decimal, signedDecimal};
-ghost use Rattle.spec_numbers.specs.TwosComplement.{signed};
-ghost use Rattle.spec_sheet.specs.Types.{widthOf};
+ghost use Rattle.lists.specs.Write.{ByWords};
+ghost use Rattle.spec_numbers.specs.LittleEndian.{leBytes};
+ghost use Rattle.spec_sheet.specs.Types.{widthOf, familyOf, addrFamily, imm32Family};
 ghost use Rattle.spec_sheet.specs.Row.{lengthOf};
 ghost use Rattle.spec_body.specs.Record.{pairs};
-ghost use Rattle.spec_listing.specs.Operand.{stringText, operandText, operandTexts};
+ghost use Rattle.spec_listing.specs.Operand.{targetOf, stringText, operandText, operandTexts};
+ghost use Rattle.listing.specs.Numbers.{frontText, valueText};
 use list_labels::target::target_of;
-use numbers::print_decimal::put_decimal;
-use numbers::print_decimal::put_signed;
+use numbers::little_endian::put_word;
+use numbers::print_words::put_decimal;
 use sheet::operand_types::ADDR_FAMILY;
 use sheet::operand_types::IMM32_FAMILY;
 use sheet::operand_types::REG_FAMILY;
 use sheet::operand_types::STRING_FAMILY;
-use sheet::operand_types::UINT_FAMILY;
-use slices::write::put_byte;
-use slices::write::put_bytes;
 use strings::table::Entry;
 
 // Writes the text of a string id, quoted, where texts are shown and it has one; else the number.
 fn put_string(out: &mut [u8], k: usize, texts: bool, bytes: &[u8], ends: &[u32], id: u64) -> usize
-    ensures { λ r. ⌜ Put (now (out .entry)) k (stringText texts (now (bytes .entry)) (now (ends .entry)) id) (now (out .exit)) r ⌝ }
+    requires { ⌜ id < 4294967296 ⌝ }
+    ensures { λ r. ⌜ ByWords (now (out .entry)) k (stringText texts (now (bytes .entry)) (now (ends .entry)) id) (now (out .exit)) r ⌝ }
 {
     if texts {
         let found = strings::table::string_at(ends, id as usize);
@@ -40,20 +39,75 @@ fn put_string(out: &mut [u8], k: usize, texts: bool, bytes: &[u8], ends: &[u32],
     put_decimal(out, k, id)
 }
 
-// Writes r and the number of a register.
-fn put_register(out: &mut [u8], k: usize, bits: u64) -> usize
-    ensures { λ r. ⌜ Put (now (out .entry)) k (114 ∷ decimal bits) (now (out .exit)) r ⌝ }
+// What stands in front of a number: r for a register, L for a target. Its length, and its byte.
+fn front_size(family: u8) -> usize
+    ensures { λ r. ⌜ (r ≡ length (frontText family)) × (r ≤ 1) ⌝ }
 {
-    let a = put_byte(out, k, 114);
-    put_decimal(out, a, bits)
+    if family == REG_FAMILY {
+        return 1;
+    }
+    if family == ADDR_FAMILY { 1 } else { 0 }
 }
 
-// Writes L and a target, which is a signed number.
-fn put_target(out: &mut [u8], k: usize, target: u32) -> usize
-    ensures { λ r. ⌜ Put (now (out .entry)) k (76 ∷ signedDecimal (signed 32 target)) (now (out .exit)) r ⌝ }
+fn front_byte(family: u8) -> u64
+    ensures { λ r. ⌜ leBytes (length (frontText family)) r ≡ frontText family ⌝ }
 {
-    let a = put_byte(out, k, 76);
-    put_signed(out, a, target)
+    if family == REG_FAMILY { 114 } else { 76 }
+}
+
+// Whether a number of 32 bits is below zero, where it is a signed one.
+fn is_negative(signed: bool, n: u64) -> bool
+    ensures { λ r. ⌜ r ≡ both signed (ltb 2147483647 n) ⌝ }
+{
+    if signed { 0x7fff_ffff < n } else { false }
+}
+
+// A number without its sign.
+fn magnitude(negative: bool, n: u64) -> u64
+    requires { ⌜ n < 4294967296 ⌝ }
+    ensures { λ r. ⌜ (r ≡ pick negative (4294967296 - n) n) × (r ≤ 4294967296) ⌝ }
+{
+    if negative { 0x1_0000_0000 - n } else { n }
+}
+
+fn sign_size(negative: bool) -> usize
+    ensures { λ r. ⌜ (r ≡ pick negative 1 0) × (r ≤ 1) ⌝ }
+{
+    if negative { 1 } else { 0 }
+}
+
+// Writes a number of a family, its sign and what stands in front of it by the same three steps whatever they are, since a branch by
+// the family costs more than a step.
+fn put_number(out: &mut [u8], k: usize, family: u8, n: u64) -> usize
+    requires { ⌜ n < 4294967296 ⌝ }
+    ensures { λ r. ⌜ ByWords (now (out .entry)) k (frontText family ++ valueText family n) (now (out .exit)) r ⌝ }
+{
+    let a = put_word(out, k, front_size(family), front_byte(family));
+    let negative = is_negative(STRING_FAMILY < family, n);
+    let b = put_word(out, a, sign_size(negative), 45);
+    put_decimal(out, b, magnitude(negative, n))
+}
+
+// Whether a family has numbers: Reg, UInt, Addr and Imm32, beside the strings' ids.
+fn is_number(family: u8) -> bool
+    ensures { λ r. ⌜ r ≡ both (ltb 0 family) (leb family imm32Family) ⌝ }
+{
+    if 0 < family {
+        family <= IMM32_FAMILY
+    } else {
+        false
+    }
+}
+
+// The number that is printed: an Addr's target, else the bits.
+fn number_of(at: usize, family: u8, code: u8, bits: u64) -> u64
+    requires { ⌜ (at ≤ bodyLimit) × (family ≡ familyOf code) × (bits < 256 ^ widthOf code) × (bits < 4294967296) ⌝ }
+    ensures { λ r. ⌜ (r ≡ pick (eqb family addrFamily) (targetOf at code bits) bits) × (r < 4294967296) ⌝ }
+{
+    if family == ADDR_FAMILY {
+        return target_of(at, code, bits) as u64;
+    }
+    bits
 }
 
 // Writes an operand of the instruction at `at`.
@@ -68,27 +122,26 @@ fn put_operand(
     bits: u64,
 ) -> usize
     requires { ⌜ (at ≤ bodyLimit) × (bits < 256 ^ widthOf code) ⌝ }
-    ensures { λ r. ⌜ Put (now (out .entry)) k (operandText texts (now (bytes .entry)) (now (ends .entry)) at code bits) (now (out .exit)) r ⌝ }
+    ensures { λ r. ⌜ ByWords (now (out .entry)) k (operandText texts (now (bytes .entry)) (now (ends .entry)) at code bits) (now (out .exit)) r ⌝ }
 {
     let family = sheet::operand_types::family(code);
-    match family {
-        REG_FAMILY => put_register(out, k, bits),
-        UINT_FAMILY => put_decimal(out, k, bits),
-        STRING_FAMILY => put_string(out, k, texts, bytes, ends, bits),
-        ADDR_FAMILY => put_target(out, k, target_of(at, code, bits)),
-        IMM32_FAMILY => put_signed(out, k, bits as u32),
-        _ => numbers::print_double::put_double(out, k, bits),
+    if family == STRING_FAMILY {
+        return put_string(out, k, texts, bytes, ends, bits);
     }
+    if is_number(family) {
+        return put_number(out, k, family, number_of(at, family, code, bits));
+    }
+    numbers::print_double::put_double(out, k, bits)
 }
 
 // Writes what stands in front of the operand i: a space, and a comma before it from the second on.
 fn put_separator(out: &mut [u8], k: usize, i: usize) -> usize
-    ensures { λ r. ⌜ Put (now (out .entry)) k (pick (eqb i 0) (text " ") (text ", ")) (now (out .exit)) r ⌝ }
+    ensures { λ r. ⌜ ByWords (now (out .entry)) k (pick (eqb i 0) (text " ") (text ", ")) (now (out .exit)) r ⌝ }
 {
     if i == 0 {
-        return put_byte(out, k, 32);
+        return put_word(out, k, 1, 32);
     }
-    put_bytes(out, k, b", ")
+    put_word(out, k, 2, 0x202c)
 }
 
 // Writes the operands of the instruction at `at`, whose types are the row's.
@@ -103,7 +156,7 @@ pub(crate) fn put_operands(
     at: usize,
 ) -> usize
     requires { ⌜ (at + lengthOf row ≤ length (now s)) × (length (now s) ≤ bodyLimit) ⌝ }
-    ensures { λ r. ⌜ Put (now (out .entry)) k (operandTexts texts (now (bytes .entry)) (now (ends .entry)) at (text " ") row (pairs row (now (s .entry)) (at + 1))) (now (out .exit)) r ⌝ }
+    ensures { λ r. ⌜ ByWords (now (out .entry)) k (operandTexts texts (now (bytes .entry)) (now (ends .entry)) at (text " ") row (pairs row (now (s .entry)) (at + 1))) (now (out .exit)) r ⌝ }
 {
     let mut n = k;
     let mut p = at + 1;
@@ -113,12 +166,10 @@ pub(crate) fn put_operands(
         if code == 0 {
             return n;
         }
-        let o = operand::read::read_operand(code, s, p);
-        let value = o.value;
-        let bits = operand::value::bits_of(value, o.bits);
+        let bits = operand::read::read_bits(code, s, p);
         n = put_separator(out, n, i);
         n = put_operand(out, n, texts, bytes, ends, at, code, bits);
-        p = o.next;
+        p += sheet::operand_types::width(code);
         i += 1;
     }
     n

@@ -4,7 +4,7 @@ use Prim.Native.Nat.{ℕ, zero, suc, _-_, _+_, _≤_, _<_}
 use native.Mathlib.Omega.{arith}
 use mathlib.Core.List.{List, [], _∷_, _++_, append-assoc}
 use lib.ListN.{length, take, drop, getD, set, replicate, length-drop, drop-of-length-le}
-use lib.Seq.{take-all, length-take-le, getD-drop, getD-take, set-at}
+use lib.Seq.{take-all, take-add, drop-drop, length-take-le, getD-drop, getD-take, set-at}
 use Rattle.lists.specs.Scan.{Bytes, part}
 
 -- what `&s[a..]` is
@@ -19,6 +19,16 @@ part-at s a n i d h = rw (getD-take, getD-drop)
 
 pub bytes-drop : (s : List ℕ) (a : ℕ) → Bytes s → Bytes (drop a s)
 bytes-drop s a h i = rw getD-drop (h (a + i))
+
+pub bytes-take : (s : List ℕ) (n : ℕ) → Bytes s → Bytes (take n s)
+bytes-take s zero h i = omega arith
+bytes-take [] (suc n) h i = h i
+bytes-take (b ∷ s) (suc n) h zero = h 0
+bytes-take (b ∷ s) (suc n) h (suc i) = bytes-take s n (λ j. h (suc j)) i
+
+-- a part and the next
+pub part-add : (s : List ℕ) (a m n : ℕ) → part s a (m + n) ≡ part s a m ++ part s (a + m) n
+part-add s a m n = rw (take-add m n (drop a s), drop-drop m a s)
 
 -- a part that begins at the end or behind it, and one that reaches the end
 pub part-none : (s : List ℕ) (a n : ℕ) → length s ≤ a → part s a n ≡ []

@@ -1,9 +1,11 @@
 pub mod ByteSums
+pub mod WordLaws
 pub mod WidthLaws
 pub mod AnswerLaws
 pub mod RoomLaws
 pub mod DecimalTurns
 pub mod HexTurns
+pub mod WordDigits
 pub mod NanLaws
 pub mod PlaceLaws
 pub mod ReadLaws

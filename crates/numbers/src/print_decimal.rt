@@ -97,13 +97,10 @@ fn put_large(out: &mut [u8], at: usize, n: u64) -> usize
     put_eight(out, k, n % 100000000)
 }
 
-// Writes n in decimal. A small number is tested for first, as most are.
+// Writes n in decimal.
 pub fn put_decimal(out: &mut [u8], at: usize, n: u64) -> usize
     ensures { λ r. ⌜ Put (now (out .entry)) at (decimal n) (now (out .exit)) r ⌝ }
 {
-    if n < 10000 {
-        return put_small(out, at, n);
-    }
     if n < 100000000 {
         return put_middle(out, at, n);
     }

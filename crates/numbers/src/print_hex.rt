@@ -10,7 +10,7 @@ use slices::write::put_byte;
 use slices::write::put_bytes;
 
 // The character of a digit; letters from `letter` on.
-fn digit_char(d: u64, letter: u8) -> u8
+pub(crate) fn digit_char(d: u64, letter: u8) -> u8
     requires { ⌜ (d < 16) × (letter ≤ 97) ⌝ }
     ensures { λ r. ⌜ r ≡ digit letter d ⌝ }
 {

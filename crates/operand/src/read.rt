@@ -59,3 +59,11 @@ pub fn read_operand(code: u8, s: &[u8], at: usize) -> Operand
         }
     }
 }
+
+// The bits of an operand, whatever its kind. Listing prints by them: a branch by the kind costs more there than the operand.
+pub fn read_bits(code: u8, s: &[u8], at: usize) -> u64
+    requires { ⌜ at + widthOf code ≤ length (now s) ⌝ }
+    ensures { λ r. ⌜ (r ≡ le (part (now (s .entry)) at (widthOf code))) × (r < 256 ^ widthOf code) ⌝ }
+{
+    numbers::little_endian::read_le(s, at, sheet::operand_types::width(code))
+}

@@ -1,15 +1,15 @@
 -- The word of eight bytes at a place: its first bytes, the byte behind them, and the text that they are. Assumes nothing.
 use mathlib.Core.Path.{_≡_, ap, sym, _∙_}
 use mathlib.Core.Bool.{true, false}
-use mathlib.Core.List.{List, [], _∷_, _++_, append-assoc}
-use Prim.Native.Nat.{ℕ, zero, suc, _+_, _-_, _*_, _/_, _%_, _^_, _≤_, _<_}
+use mathlib.Core.List.{List, _∷_, _++_, append-assoc}
+use Prim.Native.Nat.{ℕ, _+_, _-_, _*_, _/_, _%_, _^_, _≤_, _<_}
 use native.Mathlib.Nat.{add-mul-mod-self-left, mod-eq-of-lt}
 use native.Mathlib.Omega.{arith}
-use lib.ListN.{length, drop, take, getD, take-append-drop, drop-of-length-le}
+use lib.ListN.{length, drop, getD, take-append-drop, drop-of-length-le}
 use lib.Seq.{drop-drop, drop-cons}
 use borrow.Author.Tests.{ne-eqb}
 use Rattle.lists.specs.Scan.{Bytes, opens, part}
-use Rattle.lists.proofs.Parts.{bytes-drop, part-length}
+use Rattle.lists.proofs.Parts.{bytes-drop, part-length, bytes-take}
 use Rattle.lists.proofs.Scans.{opens-append, opens-split}
 use Rattle.lists.proofs.Tests.{by-leb}
 use Rattle.spec_numbers.specs.LittleEndian.{le, leBytes}
@@ -17,12 +17,6 @@ use Rattle.spec_numbers.proofs.ByteLaws.{leBytes-le, le-bound}
 use Rattle.numbers.proofs.ByteSums.{le-split, le-one, le-behind}
 use Rattle.spec_sheet.specs.Scan.{literalAt}
 use Rattle.spec_sheet.specs.Scan.Step.{next}
-
-bytes-take : (s : List ℕ) (n : ℕ) → Bytes s → Bytes (take n s)
-bytes-take s zero h i = omega arith
-bytes-take [] (suc n) h i = h i
-bytes-take (b ∷ s) (suc n) h zero = h 0
-bytes-take (b ∷ s) (suc n) h (suc i) = bytes-take s n (λ j. h (suc j)) i
 
 module _ (s : List ℕ) (at n : ℕ) (bs : Bytes s) (h : at + 8 ≤ length s) (l : n ≤ 8) where
   eight-bytes : n + (8 - n) ≡ 8

@@ -1,32 +1,16 @@
 // Comparing bytes.
 ghost use mathlib.Core.Path.{_≡_};
-ghost use Prim.Native.Nat.{_+_, _≤_, _<_};
+ghost use Prim.Native.Nat.{_≤_};
 ghost use lib.ListN.{length, drop};
 ghost use Rattle.lists.specs.Choice.{within};
 ghost use Rattle.lists.specs.Scan.{same, opens};
-ghost use Rattle.slices.specs.Words.{twoAt, fourAt};
-use crate::widen::wide_byte;
+use crate::words::four_at;
 
 // Whether a byte is from lo to hi.
 pub fn is_within(lo: u8, hi: u8, b: u8) -> bool
     ensures { λ r. ⌜ r ≡ within lo hi b ⌝ }
 {
     if lo <= b { b <= hi } else { false }
-}
-
-// Two and four bytes as one number. Each is the sum of two halves, which compiles to one load.
-fn two_at(s: &[u8], at: usize) -> u64
-    requires { ⌜ at + 2 ≤ length (now s) ⌝ }
-    ensures { λ r. ⌜ (r ≡ twoAt (now (s .entry)) at) × (r < 65536) ⌝ }
-{
-    wide_byte(s[at]) + wide_byte(s[at + 1]) * 256
-}
-
-fn four_at(s: &[u8], at: usize) -> u64
-    requires { ⌜ at + 4 ≤ length (now s) ⌝ }
-    ensures { λ r. ⌜ r ≡ fourAt (now (s .entry)) at ⌝ }
-{
-    two_at(s, at) + two_at(s, at + 2) * 65536
 }
 
 // Whether two slices of one length, four bytes or more, hold the same bytes. They are compared by four, and at last the last four, so

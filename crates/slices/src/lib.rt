@@ -5,4 +5,5 @@ pub mod compare; // equal bytes
 pub mod part; // a part of a slice
 pub mod search; // what a search answers
 pub mod widen; // numbers in a wider type
+pub mod words; // bytes as one number
 pub mod write; // bytes written where they fit, and counted

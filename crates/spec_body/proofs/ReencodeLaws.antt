@@ -1,17 +1,17 @@
 -- The records of a body that was decoded are encoded to the body. Assumes nothing.
 use mathlib.Core.Path.{_≡_, refl, ap, sym, _∙_}
 use mathlib.Core.Bool.{true}
-use mathlib.Core.List.{List, [], _∷_, _++_}
+use mathlib.Core.List.{List, _∷_, _++_}
 use Prim.Native.Nat.{ℕ, zero, suc, _+_, _-_, _^_, _≤_, _<_}
 use native.Mathlib.Omega.{arith}
 use native.Mathlib.Numerals.{add-one}
 use lib.Dec.{leb}
-use lib.ListN.{length, take, drop, getD, replicate, take-append-drop, drop-of-length-le}
-use lib.Seq.{take-add, drop-drop, drop-cons}
+use lib.ListN.{length, drop, getD, replicate, take-append-drop, drop-of-length-le}
+use lib.Seq.{drop-drop, drop-cons}
 use borrow.Author.Tests.{le-leb}
 use Rattle.lists.specs.Scan.{Bytes, part}
 use Rattle.lists.proofs.Tests.{both-yes}
-use Rattle.lists.proofs.Parts.{bytes-drop, part-length}
+use Rattle.lists.proofs.Parts.{bytes-drop, part-length, bytes-take, part-add}
 use Rattle.spec_numbers.specs.LittleEndian.{le, leBytes}
 use Rattle.spec_numbers.proofs.ByteLaws.{leBytes-le, le-bound}
 use Rattle.spec_sheet.specs.Types.{widthOf, kindOf}
@@ -30,16 +30,6 @@ use Rattle.spec_body.proofs.OperandLaws.{typed-pair, kept}
 use Rattle.spec_body.proofs.EncodeLaws.{OneEncoded, Encoding, pairs-used, operands-more, operands-none, one-more, records-encoded}
 use Rattle.spec_body.proofs.EncodeLaws.Encoding.{no-record}
 use Rattle.spec_body.proofs.RowLaws.{GoodRow, GoodRows, good-length, good-widths, good-count}
-
--- two parts, one behind the other
-pub part-add : (s : List ℕ) (p n m : ℕ) → part s p (n + m) ≡ part s p n ++ part s (p + n) m
-part-add s p n m = take-add n m (drop p s) ∙ rw (drop-drop n p s)
-
-bytes-take : (s : List ℕ) (n : ℕ) → Bytes s → Bytes (take n s)
-bytes-take s zero h i = omega arith
-bytes-take [] (suc n) h i = h i
-bytes-take (b ∷ s) (suc n) h zero = h 0
-bytes-take (b ∷ s) (suc n) h (suc i) = bytes-take s n (λ j. h (suc j)) i
 
 -- the bytes of a part's number are the part
 pub part-back : (s : List ℕ) (p n : ℕ) → Bytes s → p + n ≤ length s → leBytes n (le (part s p n)) ≡ part s p n

@@ -7,6 +7,7 @@ use native.Mathlib.Omega.{arith}
 use lib.Dec.{leb}
 use lib.ListN.{length, getD, drop, replicate}
 use lib.Seq.{getD-drop}
+use Rattle.lists.proofs.Parts.{part-add}
 use Rattle.lists.specs.Scan.{Bytes, all, part}
 use Rattle.lists.specs.Found.{Found}
 use Rattle.lists.proofs.Tests.{both-yes}
@@ -18,7 +19,7 @@ use Rattle.spec_sheet.specs.Row.{sumBy, totalWidth}
 use Rattle.spec_body.specs.Record.{pairs}
 use Rattle.spec_body.proofs.OperandLaws.{no-zero}
 use Rattle.spec_body.proofs.RowLaws.{GoodRow, good-widths}
-use Rattle.spec_body.proofs.ReencodeLaws.{part-add, part-back, part-below}
+use Rattle.spec_body.proofs.ReencodeLaws.{part-back, part-below}
 use Rattle.spec_inputs.specs.Context.{Context}
 use Rattle.spec_listing.proofs.LineShape.{operandPieces, pieces-more}
 use Rattle.spec_listing.proofs.PieceBytes.{Piece}

@@ -6,7 +6,7 @@ use native.Mathlib.Omega.{arith}
 use Rattle.lists.proofs.Parts.{part-at, part-length}
 use Rattle.lists.specs.Choice.{both}
 use Rattle.encode.proofs.CanonicalLaws.{zero-met, zero-ended}
-use Rattle.encode.specs.Ahead.{recordAt}
+use Rattle.encode.specs.RecordPlaces.{recordAt}
 use Rattle.encode.specs.Canonical.{allZero}
 use borrow.Author.Needs.{needs}
 use Rattle.encode.proofs.canonical.bare_words.Statement.{statement}

@@ -4,7 +4,7 @@ use lib.ListN.{length, take, drop, drop-of-length-le}
 use Prim.Native.Nat.{_-_, _*_, _≤_}
 use native.Mathlib.Omega.{arith}
 use Rattle.encode.proofs.CanonicalLaws.{four-code, pair-canonical, pair-other}
-use Rattle.encode.specs.Ahead.{pairsAt}
+use Rattle.encode.specs.RecordPlaces.{pairsAt}
 use Rattle.encode.specs.Canonical.{canonicalPairs}
 use borrow.Author.Needs.{needs}
 use Rattle.encode.proofs.canonical.canonical_front.Statement.{statement}

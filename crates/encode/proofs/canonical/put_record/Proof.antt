@@ -1,6 +1,6 @@
 use native.Mathlib.Omega.{arith}
 use Rattle.lists.proofs.Writes.{kept-length}
-use Rattle.encode.proofs.AheadLaws.{_and-then_, not-ahead}
+use Rattle.lists.proofs.Aheads.{_and-then_, not-ahead}
 use borrow.Author.Needs.{needs}
 use Rattle.encode.proofs.canonical.put_record.Statement.{statement}
 use Rattle.encode.proofs.canonical.put_record.Tie as tie

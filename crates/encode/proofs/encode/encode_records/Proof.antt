@@ -1,7 +1,7 @@
 use mathlib.Core.Path.{refl}
 use native.Mathlib.Omega.{arith}
 use Prim.Native.Nat.{_-_}
-use Rattle.encode.proofs.AheadLaws.{ahead-length}
+use Rattle.lists.proofs.Aheads.{ahead-length}
 use Rattle.encode.proofs.RecordsLoop.{Going, start, turn, stops, cut, ended}
 use borrow.Author.Needs.{needs}
 use Rattle.encode.proofs.encode.encode_records.Statement.{statement}

@@ -32,7 +32,7 @@ slice-aggregate-list-body : tie.Need-slice-aggregate-list-body
 slice-aggregate-list-body c = search needs
 
 list-body-requires : tie.Need-list-body-requires
-list-body-requires c κs = let q = c .before .before .before .before .before .before .before .before .before .before .before .before .before .before .before .before .pre in (q .0, (q .1 .0, omega arith, omega (arith, q .1 .1, c .before .before .before .before .put-byte .ensures .next, c .before .before .before .before .before .before .before .before .before .put-title .ensures .next, c .before .before .before .before .before .before .if1 .left)))
+list-body-requires c κs = let q = c .before .before .before .before .before .before .before .before .before .before .before .before .before .before .before .before .pre in (q .0, (q .1 .0, omega arith))
 
 end-part-requires : tie.Need-end-part-requires
 end-part-requires c κs = search needs

@@ -24,7 +24,7 @@ list-flagged-requires c κs =
     let q = c .before .before .before .before .before .before .before .before .before .before .before .before .before .pre in
     let f = c .before .before .before .before .before .few-flags .result in
     let h : length f ≡ 4096 = search needs in
-    (zeroed f _ (w .ensures), (q .0, (omega (arith, h, cleared-size f _ (w .ensures), c .before .before .before .before .before .before .if1 .taken), omega (arith, h, cleared-size f _ (w .ensures)), q .1 .1, q .1 .2)))
+    (zeroed f _ (w .ensures), (q .0, (omega (arith, h, cleared-size f _ (w .ensures), c .before .before .before .before .before .before .if1 .taken), omega (arith, h, cleared-size f _ (w .ensures)), q .1 .1)))
 
 same-length : tie.Need-same-length
 same-length c = search needs
@@ -50,7 +50,7 @@ list-flagged-requires-2 c κs =
     let q = c .before .before .before .before .before .before .before .before .before .before .before .before .before .pre in
     let f = c .before .before .before .before .before .all-flags .result in
     let h : length f ≡ 65536 = search needs in
-    (zeroed f _ (w .ensures), (q .0, (omega (arith, h, cleared-size f _ (w .ensures), q .1 .0), omega (arith, h, cleared-size f _ (w .ensures)), q .1 .1, q .1 .2)))
+    (zeroed f _ (w .ensures), (q .0, (omega (arith, h, cleared-size f _ (w .ensures), q .1 .0), omega (arith, h, cleared-size f _ (w .ensures)), q .1 .1)))
 
 same-length-2 : tie.Need-same-length-2
 same-length-2 c = search needs

@@ -1,7 +1,8 @@
-use native.Mathlib.Omega.{arith}
 use Rattle.listing.specs.Parts.{flaggedText}
-use Rattle.lists.proofs.Writes.{same-piece, wrote-none}
+use Rattle.lists.proofs.Aheads.{as-words, same-ahead}
+use Rattle.lists.proofs.Writes.{wrote-none}
 use borrow.Author.Tests.{eq-eqb, ne-eqb}
+use native.Mathlib.Omega.{arith}
 use mathlib.Core.Path.{sym}
 use borrow.Author.Needs.{needs}
 use Rattle.listing.proofs.body_lines.put_flagged_label.Statement.{statement}
@@ -18,15 +19,15 @@ same-length c = search needs
 
 returns : tie.Need-returns
 unfolding flaggedText
-returns c = same-piece (sym (rw (c .before .before .before .before .before .before .if1 .taken, eq-eqb _ _ (c .before .before .before .before .if2 .taken)))) (c .before .before .put-label .ensures)
+returns c = same-ahead (sym (rw (c .before .before .before .before .before .before .if1 .taken, eq-eqb _ _ (c .before .before .before .before .if2 .taken)))) (c .before .before .put-label .ensures)
 
 returns-2 : tie.Need-returns-2
 unfolding flaggedText
-returns-2 c = same-piece (sym (rw (c .before .before .if1 .taken, ne-eqb _ _ (c .if2 .left)))) (wrote-none (omega arith) (omega arith))
+returns-2 c = same-ahead (sym (rw (c .before .before .if1 .taken, ne-eqb _ _ (c .if2 .left)))) (as-words (wrote-none (omega arith) (omega arith)))
 
 returns-3 : tie.Need-returns-3
 unfolding flaggedText
-returns-3 c = same-piece (sym (rw (c .if1 .left))) (wrote-none (omega arith) (omega arith))
+returns-3 c = same-ahead (sym (rw (c .if1 .left))) (as-words (wrote-none (omega arith) (omega arith)))
 
 pub put-flagged-label-spec : {M : Type 1} → statement M
 put-flagged-label-spec =

@@ -1,6 +1,8 @@
 use Rattle.spec_listing.specs.Listing.{labelLine}
+use Rattle.spec_numbers.specs.LittleEndian.{leBytes}
+use Rattle.lists.proofs.Aheads.{as-words, _and-words_}
 use Rattle.lists.specs.Text.{text}
-use Rattle.lists.proofs.Writes.{_then_}
+use native.Mathlib.Omega.{arith}
 use borrow.Author.Needs.{needs}
 use Rattle.listing.proofs.body_lines.put_label.Statement.{statement}
 use Rattle.listing.proofs.body_lines.put_label.Tie as tie
@@ -8,37 +10,29 @@ use Rattle.listing.proofs.body_lines.put_label.Tie as tie
 put-bytes-requires : tie.Need-put-bytes-requires
 put-bytes-requires c κs = search needs
 
-slice-aggregate-put-bytes : tie.Need-slice-aggregate-put-bytes
-slice-aggregate-put-bytes c = search needs
-
-put-bytes-requires-2 : tie.Need-put-bytes-requires-2
-put-bytes-requires-2 c κs = search needs
+put-word-requires : tie.Need-put-word-requires
+put-word-requires c κs = search needs
 
 put-decimal-requires : tie.Need-put-decimal-requires
-put-decimal-requires c κs = search needs
+put-decimal-requires c κs = omega (arith, c .before .before .before .before .before .before .before .before .before .before .before .pre)
 
-slice-aggregate-put-bytes-2 : tie.Need-slice-aggregate-put-bytes-2
-slice-aggregate-put-bytes-2 c = search needs
-
-put-bytes-requires-3 : tie.Need-put-bytes-requires-3
-put-bytes-requires-3 c κs = search needs
+put-word-requires-2 : tie.Need-put-word-requires-2
+put-word-requires-2 c κs = search needs
 
 same-length : tie.Need-same-length
 same-length c = search needs
 
 returns : tie.Need-returns
-unfolding labelLine text
-returns c = c .before .before .before .before .before .before .before .before .before .before .before .before .before .before .before .before .put-bytes .ensures then c .before .before .before .before .before .before .before .before .before .before .before .put-bytes2 .ensures then c .before .before .before .before .before .before .before .put-decimal .ensures then c .before .before .put-bytes3 .ensures
+unfolding labelLine text leBytes
+returns c = as-words (c .before .before .before .before .before .before .before .before .before .before .before .before .before .before .put-bytes .ensures) and-words c .before .before .before .before .before .before .before .before .before .before .put-word .ensures and-words c .before .before .before .before .before .before .put-decimal .ensures and-words c .before .before .put-word2 .ensures
 
 pub put-label-spec : {M : Type 1} → statement M
 put-label-spec =
     tie.close
     (tie.spec
     put-bytes-requires
-    slice-aggregate-put-bytes
-    put-bytes-requires-2
+    put-word-requires
     put-decimal-requires
-    slice-aggregate-put-bytes-2
-    put-bytes-requires-3
+    put-word-requires-2
     same-length
     returns)

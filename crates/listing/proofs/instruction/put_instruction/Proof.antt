@@ -1,7 +1,7 @@
 use native.Mathlib.Omega.{arith}
 use Rattle.spec_listing.specs.Line.{instructionText}
 use Rattle.spec_inputs.specs.Context.{nameOf}
-use Rattle.lists.proofs.Writes.{_then_}
+use Rattle.lists.proofs.Aheads.{_and-words_}
 use borrow.Author.Needs.{needs}
 use Rattle.listing.proofs.instruction.put_instruction.Statement.{statement}
 use Rattle.listing.proofs.instruction.put_instruction.Tie as tie
@@ -44,7 +44,7 @@ same-length c = search needs
 
 returns : tie.Need-returns
 unfolding instructionText nameOf
-returns c = c .before .before .before .before .before .before .before .before .before .before .put-offset .ensures then c .before .before .before .before .before .before .put-name .ensures then c .before .before .put-operands .ensures
+returns c = c .before .before .before .before .before .before .before .before .before .before .put-offset .ensures and-words c .before .before .before .before .before .before .put-name .ensures and-words c .before .before .put-operands .ensures
 
 pub put-instruction-spec : {M : Type 1} → statement M
 put-instruction-spec =

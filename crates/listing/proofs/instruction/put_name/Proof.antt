@@ -1,6 +1,6 @@
-use borrow.Author.Tests.{eq-eqb, ne-eqb}
+use Rattle.lists.proofs.Aheads.{as-words, same-ahead}
 use Rattle.lists.specs.Text.{text}
-use Rattle.lists.proofs.Writes.{same-piece}
+use borrow.Author.Tests.{eq-eqb, ne-eqb}
 use borrow.Author.Needs.{needs}
 use Rattle.listing.proofs.instruction.put_name.Statement.{statement}
 use Rattle.listing.proofs.instruction.put_name.Tie as tie
@@ -16,19 +16,16 @@ same-length c = search needs
 
 returns : tie.Need-returns
 unfolding text
-returns c = same-piece (rw (eq-eqb _ 0 (c .before .before .before .before .before .if1 .taken))) (c .before .before .put-bytes .ensures)
+returns c = same-ahead (rw (eq-eqb _ 0 (c .before .before .before .before .before .if1 .taken))) (as-words (c .before .before .put-bytes .ensures))
 
-part-of-requires : tie.Need-part-of-requires
-part-of-requires c κs = search needs
-
-put-bytes-requires-2 : tie.Need-put-bytes-requires-2
-put-bytes-requires-2 c κs = search needs
+put-part-requires : tie.Need-put-part-requires
+put-part-requires c κs = search needs
 
 same-length-2 : tie.Need-same-length-2
 same-length-2 c = search needs
 
 returns-2 : tie.Need-returns-2
-returns-2 c = same-piece (rw (ne-eqb _ 0 (c .before .before .before .before .before .if1 .left)) (c .before .before .before .before .part-of .ensures)) (c .before .before .put-bytes2 .ensures)
+returns-2 c = same-ahead (rw (ne-eqb _ 0 (c .before .before .before .before .if1 .left))) (c .before .before .put-part .ensures)
 
 pub put-name-spec : {M : Type 1} → statement M
 put-name-spec =
@@ -38,7 +35,6 @@ put-name-spec =
     put-bytes-requires
     same-length
     returns
-    part-of-requires
-    put-bytes-requires-2
+    put-part-requires
     same-length-2
     returns-2)

@@ -1,7 +1,11 @@
+use Rattle.listing.proofs.OperandLaws.{short-bits, of-number, of-string, of-double}
+use Rattle.spec_sheet.specs.Types.{familyOf}
+use Rattle.lists.proofs.Aheads.{as-words, same-ahead}
+use Rattle.lists.proofs.Tests.{both-right}
+use borrow.Author.Tests.{leb-true}
+use lib.Dec.{ltb, leb}
 use native.Mathlib.Omega.{arith}
 use mathlib.Core.Path.{sym, _∙_}
-use Rattle.listing.proofs.OperandLaws.{immediate-bits, of-register, of-number, of-string, of-address, of-immediate, of-double}
-use Rattle.lists.proofs.Writes.{same-piece}
 use borrow.Author.Needs.{needs}
 use Rattle.listing.proofs.operand_text.put_operand.Statement.{statement}
 use Rattle.listing.proofs.operand_text.put_operand.Tie as tie
@@ -9,93 +13,64 @@ use Rattle.listing.proofs.operand_text.put_operand.Tie as tie
 family-requires : tie.Need-family-requires
 family-requires c κs = search needs
 
-put-register-requires : tie.Need-put-register-requires
-put-register-requires c κs = search needs
-
-put-decimal-requires : tie.Need-put-decimal-requires
-put-decimal-requires c κs = search needs
-
 put-string-requires : tie.Need-put-string-requires
-put-string-requires c κs = search needs
-
-target-of-requires : tie.Need-target-of-requires
-target-of-requires c κs = search needs
-
-put-target-requires : tie.Need-put-target-requires
-put-target-requires c κs = search needs
-
-cast-put-signed : tie.Need-cast-put-signed
-cast-put-signed c =
-    let a = c .before .before .before .before .before .before in
-    omega (arith, immediate-bits _ (a .args .bits) (sym (c .before .before .family .ensures) ∙ c .before .match .keys5) (a .pre .1))
-
-put-signed-requires : tie.Need-put-signed-requires
-put-signed-requires c κs = search needs
-
-put-double-requires : tie.Need-put-double-requires
-put-double-requires c κs = search needs
+put-string-requires c κs =
+    let a = c .before .before .before .before .before .before .args in
+    let f = sym (c .before .before .family .ensures) ∙ c .before .if1 .taken in
+    short-bits (a .code) (a .bits) (omega (arith, f)) (c .before .before .before .before .before .before .pre .1)
 
 same-length : tie.Need-same-length
 same-length c = search needs
 
 returns : tie.Need-returns
-returns c = same-piece (of-register _ _ _ _ _ _ (sym (c .before .before .before .before .before .family .ensures) ∙ c .before .before .before .before .match .keys1)) (c .before .before .put-register .ensures)
+returns c = same-ahead (of-string _ _ _ _ _ _ (sym (c .before .before .before .before .before .family .ensures) ∙ c .before .before .before .before .if1 .taken)) (c .before .before .put-string .ensures)
+
+is-number-requires : tie.Need-is-number-requires
+is-number-requires c κs = search needs
+
+number-of-requires : tie.Need-number-of-requires
+number-of-requires c κs =
+    let a = c .before .before .before .before .before .before .before .before .args in
+    let e = c .before .before .before .before .family .ensures in
+    let f = familyOf (a .code) in
+    let l = leb-true f 5 (both-right (ltb 0 f) (leb f 5) (rw e at (sym (c .before .before .is-number .ensures) ∙ c .before .if2 .taken))) in
+    (c .before .before .before .before .before .before .before .before .pre .0, e, c .before .before .before .before .before .before .before .before .pre .1, short-bits (a .code) (a .bits) l (c .before .before .before .before .before .before .before .before .pre .1))
+
+put-number-requires : tie.Need-put-number-requires
+put-number-requires c κs = c .number-of .ensures .1
 
 same-length-2 : tie.Need-same-length-2
 same-length-2 c = search needs
 
 returns-2 : tie.Need-returns-2
-returns-2 c = same-piece (of-number _ _ _ _ _ _ (sym (c .before .before .before .before .before .family .ensures) ∙ c .before .before .before .before .match .keys2)) (c .before .before .put-decimal .ensures)
+returns-2 c =
+    let e = c .before .before .before .before .before .before .before .before .family .ensures in
+    same-ahead (rw (c .before .before .before .number-of .ensures .0, e) (of-number _ _ _ _ _ _ (λ z. c .before .before .before .before .before .before .before .if1 .left (e ∙ z)) (rw e at (sym (c .before .before .before .before .before .before .is-number .ensures) ∙ c .before .before .before .before .before .if2 .taken)))) (c .before .before .put-number .ensures)
+
+put-double-requires : tie.Need-put-double-requires
+put-double-requires c κs = search needs
 
 same-length-3 : tie.Need-same-length-3
 same-length-3 c = search needs
 
 returns-3 : tie.Need-returns-3
-returns-3 c = same-piece (of-string _ _ _ _ _ _ (sym (c .before .before .before .before .before .family .ensures) ∙ c .before .before .before .before .match .keys3)) (c .before .before .put-string .ensures)
-
-same-length-4 : tie.Need-same-length-4
-same-length-4 c = search needs
-
-returns-4 : tie.Need-returns-4
-returns-4 c = same-piece (of-address _ _ _ _ _ _ _ (sym (c .before .before .before .before .before .before .family .ensures) ∙ c .before .before .before .before .before .match .keys4) (c .before .before .before .target-of .ensures)) (c .before .before .put-target .ensures)
-
-same-length-5 : tie.Need-same-length-5
-same-length-5 c = search needs
-
-returns-5 : tie.Need-returns-5
-returns-5 c = same-piece (of-immediate _ _ _ _ _ _ (sym (c .before .before .before .before .before .family .ensures) ∙ c .before .before .before .before .match .keys5)) (c .before .before .put-signed .ensures)
-
-same-length-6 : tie.Need-same-length-6
-same-length-6 c = search needs
-
-returns-6 : tie.Need-returns-6
-returns-6 c =
-    let r = c .before .before .before .before .match .rest in
-    let f = c .before .before .before .before .before .family .ensures in
-    same-piece (of-double _ _ _ _ _ _ (λ e. r .0 .0 .0 .0 .1 (f ∙ e)) (λ e. r .0 .0 .0 .1 (f ∙ e)) (λ e. r .0 .0 .1 (f ∙ e)) (λ e. r .0 .1 (f ∙ e)) (λ e. r .1 (f ∙ e))) (c .before .before .put-double .ensures)
+returns-3 c =
+    let e = c .before .before .before .before .before .before .before .family .ensures in
+    same-ahead (of-double _ _ _ _ _ _ (λ z. c .before .before .before .before .before .before .if1 .left (e ∙ z)) (rw e at (sym (c .before .before .before .before .before .is-number .ensures) ∙ c .before .before .before .before .if2 .left))) (as-words (c .before .before .put-double .ensures))
 
 pub put-operand-spec : {M : Type 1} → statement M
 put-operand-spec =
     tie.close
     (tie.spec
     family-requires
-    put-register-requires
-    put-decimal-requires
     put-string-requires
-    target-of-requires
-    put-target-requires
-    cast-put-signed
-    put-signed-requires
-    put-double-requires
     same-length
     returns
+    is-number-requires
+    number-of-requires
+    put-number-requires
     same-length-2
     returns-2
+    put-double-requires
     same-length-3
-    returns-3
-    same-length-4
-    returns-4
-    same-length-5
-    returns-5
-    same-length-6
-    returns-6)
+    returns-3)

@@ -1,9 +1,8 @@
-use Rattle.operand.proofs.ValueLaws.{read-bits, read-below, read-next}
-use Prim.Native.Nat.{_-_}
-use lib.ListN.{length}
-use mathlib.Core.Path.{_≡_, refl}
-use native.Mathlib.Omega.{arith}
 use Rattle.listing.proofs.OperandsLoop.{Going, start, operand-room, turn, stopped, ended}
+use lib.ListN.{length}
+use native.Mathlib.Omega.{arith}
+use Prim.Native.Nat.{_-_}
+use mathlib.Core.Path.{_≡_, refl}
 use borrow.Author.Needs.{needs}
 use Rattle.listing.proofs.operand_text.put_operands.Statement.{statement}
 use Rattle.listing.proofs.operand_text.put_operands.Tie as tie
@@ -31,23 +30,25 @@ returns c =
     let h : length (c .before .before .before .before .before .before .before .args .t6) ≡ 8 = search needs in
     stopped (c .before .before .loop .inv) _ (c .before .loop-test .taken) h refl (c .if1 .taken)
 
-read-operand-requires : tie.Need-read-operand-requires Inv-loop μ-loop
-read-operand-requires c κs =
-    let l = c .before .before .loop in
+read-bits-requires : tie.Need-read-bits-requires Inv-loop μ-loop
+read-bits-requires c κs =
     let h : length (c .before .before .before .before .before .before .before .args .t6) ≡ 8 = search needs in
-    omega (arith, operand-room (l .inv) _ (omega arith) refl)
-
-bits-of-requires : tie.Need-bits-of-requires Inv-loop μ-loop
-bits-of-requires c κs = search needs
+    omega (arith, operand-room (c .before .before .loop .inv) _ (omega arith) refl)
 
 put-separator-requires : tie.Need-put-separator-requires Inv-loop μ-loop
 put-separator-requires c κs = search needs
 
 put-operand-requires : tie.Need-put-operand-requires Inv-loop μ-loop
-put-operand-requires c κs =
-    let a = c .before .before .before .before .before .before .before .before .before .before .before .before .before .before in
-    let o = c .before .before .before .before .before .before .read-operand .ensures in
-    (omega (arith, a .pre), read-below _ (a .args .s .now) (c .before .before .before .before .before .before .before .before .before .loop .p) _ _ (o .0) (o .1) (c .before .before .before .before .before .bits-of .ensures))
+put-operand-requires c κs = (omega (arith, c .before .before .before .before .before .before .before .before .before .before .before .before .before .pre), c .before .before .before .before .before .read-bits .ensures .1)
+
+width-requires : tie.Need-width-requires Inv-loop μ-loop
+width-requires c κs = search needs
+
+add-p-2 : tie.Need-add-p-2 Inv-loop μ-loop
+add-p-2 c =
+    let l = c .before .before .before .before .before .before .before .before .before .before .before .before .loop in
+    let h : length (c .before .before .before .before .before .before .before .before .before .before .before .before .before .before .before .before .before .args .t6) ≡ 8 = search needs in
+    omega (arith, c .width .ensures, operand-room (l .inv) _ (omega arith) refl)
 
 add-i : tie.Need-add-i Inv-loop μ-loop
 add-i c = search needs
@@ -57,13 +58,10 @@ loop-less c = search needs
 
 loop-again : tie.Need-loop-again Inv-loop μ-loop
 loop-again c =
-    let a = c .before .before .before .before .before .before .before .before .before .before .before .before .before .before .before .before .before in
     let l = c .before .before .before .before .before .before .before .before .before .before .before .before .loop in
-    let h : length (a .args .t6) ≡ 8 = search needs in
-    let o = c .before .before .before .before .before .before .before .before .before .read-operand .ensures in
-    let q = c .before .before .before .before .before .before .before .before .bits-of .ensures in
-    rw (read-next _ (a .args .s .now) (l .p) _ _ (o .0) (o .1) q)
-    (turn (l .inv) _ _ _ (c .before .before .before .before .before .before .before .before .before .before .before .loop-test .taken) h refl (c .before .before .before .before .before .before .before .before .before .before .if1 .left) refl (read-bits _ (a .args .s .now) (l .p) _ _ (o .0) (o .1) q) (c .before .before .before .before .before .before .put-separator .ensures) (c .before .before .put-operand .ensures))
+    let h : length (c .before .before .before .before .before .before .before .before .before .before .before .before .before .before .before .before .before .args .t6) ≡ 8 = search needs in
+    rw (c .width .ensures)
+    (turn (l .inv) _ _ _ (c .before .before .before .before .before .before .before .before .before .before .before .loop-test .taken) h refl (c .before .before .before .before .before .before .before .before .before .before .if1 .left) refl (c .before .before .before .before .before .before .before .before .before .read-bits .ensures .0) (c .before .before .before .before .before .before .before .put-separator .ensures) (c .before .before .before .put-operand .ensures))
 
 same-length-2 : tie.Need-same-length-2 Inv-loop μ-loop
 same-length-2 c = c .before .loop .inv .left .same-size
@@ -84,10 +82,11 @@ put-operands-spec =
     array-read-code
     same-length
     returns
-    read-operand-requires
-    bits-of-requires
+    read-bits-requires
     put-separator-requires
     put-operand-requires
+    width-requires
+    add-p-2
     add-i
     loop-less
     loop-again

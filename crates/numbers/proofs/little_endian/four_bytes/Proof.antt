@@ -1,31 +1,17 @@
 use native.Mathlib.Omega.{arith}
-use Rattle.numbers.proofs.ByteSums.{le-split}
+use Rattle.numbers.proofs.ByteSums.{le-four}
 use borrow.Author.Needs.{needs}
+use mathlib.Core.Path.{_∙_, sym}
 use Rattle.numbers.proofs.little_endian.four_bytes.Statement.{statement}
 use Rattle.numbers.proofs.little_endian.four_bytes.Tie as tie
 
-two-bytes-requires : tie.Need-two-bytes-requires
-two-bytes-requires c κs = search needs
-
-add-two-bytes : tie.Need-add-two-bytes
-add-two-bytes c = search needs
-
-two-bytes-requires-2 : tie.Need-two-bytes-requires-2
-two-bytes-requires-2 c κs = search needs
-
-mul-result : tie.Need-mul-result
-mul-result c = search needs
-
-add-result : tie.Need-add-result
-add-result c = search needs
+four-at-requires : tie.Need-four-at-requires
+four-at-requires c κs = search needs
 
 returns : tie.Need-returns
 returns c =
-    let a = c .before .before .before .args in
-    let e = le-split (a .s .now) (a .at) 2 2 (omega arith) in
-    (omega (arith, e, c .before .two-bytes .ensures .0, c .two-bytes2 .ensures .0), omega (arith, c .before .two-bytes .ensures .1, c .two-bytes2 .ensures .1))
+    let a = c .before .before .args in
+    (c .four-at .ensures .0 ∙ sym (le-four (a .s .now) (a .at) (omega arith)), c .four-at .ensures .1)
 
 pub four-bytes-spec : {M : Type 1} → statement M
-four-bytes-spec =
-    tie.close
-    (tie.spec two-bytes-requires add-two-bytes two-bytes-requires-2 mul-result add-result returns)
+four-bytes-spec = tie.close (tie.spec four-at-requires returns)

@@ -6,8 +6,8 @@ use Rattle.numbers.proofs.DecimalTurns.{decimal-last-eight}
 use Rattle.numbers.proofs.print_decimal.put_decimal.Statement.{statement}
 use Rattle.numbers.proofs.print_decimal.put_decimal.Tie as tie
 
-put-small-requires : tie.Need-put-small-requires
-put-small-requires c κs = search needs
+put-middle-requires : tie.Need-put-middle-requires
+put-middle-requires c κs = search needs
 
 same-length : tie.Need-same-length
 same-length c = search needs
@@ -15,40 +15,28 @@ same-length c = search needs
 returns : tie.Need-returns
 returns c = search needs
 
-put-middle-requires : tie.Need-put-middle-requires
-put-middle-requires c κs = search needs
-
-same-length-2 : tie.Need-same-length-2
-same-length-2 c = search needs
-
-returns-2 : tie.Need-returns-2
-returns-2 c = search needs
-
 put-large-requires : tie.Need-put-large-requires
 put-large-requires c κs = search needs
 
 put-eight-requires : tie.Need-put-eight-requires
 put-eight-requires c κs = search needs
 
-same-length-3 : tie.Need-same-length-3
-same-length-3 c = search needs
+same-length-2 : tie.Need-same-length-2
+same-length-2 c = search needs
 
-returns-3 : tie.Need-returns-3
-returns-3 c =
+returns-2 : tie.Need-returns-2
+returns-2 c =
     let front = c .before .before .before .before .before .before in
-    same-piece (sym (decimal-last-eight _ (front .before .before .if2 .left) (omega arith))) (front .put-large .ensures then c .before .before .put-eight .ensures)
+    same-piece (sym (decimal-last-eight _ (front .before .before .if1 .left) (omega arith))) (front .put-large .ensures then c .before .before .put-eight .ensures)
 
 pub put-decimal-spec : {M : Type 1} → statement M
 put-decimal-spec =
     tie.close
     (tie.spec
-    put-small-requires
+    put-middle-requires
     same-length
     returns
-    put-middle-requires
-    same-length-2
-    returns-2
     put-large-requires
     put-eight-requires
-    same-length-3
-    returns-3)
+    same-length-2
+    returns-2)

@@ -30,7 +30,7 @@ returns : tie.Need-returns Inv-loop μ-loop
 returns c =
     let l = c .before .before .before .before .loop in
     let a = c .before .before .before .before .before .before .before .args in
-    sym (other-four (a .s .now) (a .t .now) (l .i) (λ z. c .if1 .taken (c .before .before .four-at .ensures ∙ z ∙ sym (c .before .four-at2 .ensures))))
+    sym (other-four (a .s .now) (a .t .now) (l .i) (λ z. c .if1 .taken (c .before .before .four-at .ensures .0 ∙ z ∙ sym (c .before .four-at2 .ensures .0))))
 
 add-i : tie.Need-add-i Inv-loop μ-loop
 add-i c = search needs
@@ -42,7 +42,7 @@ loop-again : tie.Need-loop-again Inv-loop μ-loop
 loop-again c =
     let l = c .before .before .before .before .loop in
     let a = c .before .before .before .before .before .before .before .args in
-    let e = sym (c .before .before .four-at .ensures) ∙ c .if1 .left ∙ c .before .four-at2 .ensures in
+    let e = sym (c .before .before .four-at .ensures .0) ∙ c .if1 .left ∙ c .before .four-at2 .ensures .0 in
     (omega arith, l .inv .1 ∙ same-four (a .s .now) (a .t .now) (λ i. c .before .before .before .before .before .before .shared-slice-known .given i .fits) (λ i. c .before .before .before .before .before .shared-slice-known2 .given i .fits) (c .before .before .before .before .before .before .before .pre .1) (l .i) (omega arith) e)
 
 sub-last : tie.Need-sub-last Inv-loop μ-loop
@@ -58,7 +58,7 @@ returns-2 : tie.Need-returns-2 Inv-loop μ-loop
 returns-2 c =
     let l = c .before .before .before .loop in
     let a = c .before .before .before .before .before .before .args in
-    rw (c .before .four-at3 .ensures, c .four-at4 .ensures) (last-four (a .s .now) (a .t .now) (λ i. c .before .before .before .before .before .shared-slice-known .given i .fits) (λ i. c .before .before .before .before .shared-slice-known2 .given i .fits) (c .before .before .before .before .before .before .pre .1) (l .i) _ (omega arith) (omega arith) (l .inv .1))
+    rw (c .before .four-at3 .ensures .0, c .four-at4 .ensures .0) (last-four (a .s .now) (a .t .now) (λ i. c .before .before .before .before .before .shared-slice-known .given i .fits) (λ i. c .before .before .before .before .shared-slice-known2 .given i .fits) (c .before .before .before .before .before .before .pre .1) (l .i) _ (omega arith) (omega arith) (l .inv .1))
 
 pub same-long-spec : {M : Type 1} → statement M
 same-long-spec =

@@ -3,12 +3,12 @@ use lib.ListN.{length, length-set}
 use Prim.Native.Nat.{_+_, _-_, _≤_, _%_}
 use native.Mathlib.Nat.{add-zero}
 use native.Mathlib.Omega.{arith}
-use Rattle.encode.proofs.AheadLaws.{one-byte}
+use Rattle.numbers.proofs.WordLaws.{one-byte}
 use Rattle.spec_numbers.specs.LittleEndian.{leBytes}
 use Rattle.lists.specs.Write.{put}
 use borrow.Author.Needs.{needs}
-use Rattle.encode.proofs.canonical.put_eight.Statement.{statement}
-use Rattle.encode.proofs.canonical.put_eight.Tie as tie
+use Rattle.numbers.proofs.little_endian.put_eight.Statement.{statement}
+use Rattle.numbers.proofs.little_endian.put_eight.Tie as tie
 
 abbrev Inv-loop : tie.InvT-loop
 Inv-loop out₀ at v rest₀ i₀ out rest i = (i ≤ 8) × (length out ≡ length out₀) × (put out (at + i) (leBytes (8 - i) rest) ≡ put out₀ at (leBytes 8 v))

@@ -1,7 +1,7 @@
 use Rattle.slices.specs.Words.{fourAt}
 use borrow.Author.Needs.{needs}
-use Rattle.slices.proofs.compare.four_at.Statement.{statement}
-use Rattle.slices.proofs.compare.four_at.Tie as tie
+use Rattle.slices.proofs.words.four_at.Statement.{statement}
+use Rattle.slices.proofs.words.four_at.Tie as tie
 
 two-at-requires : tie.Need-two-at-requires
 two-at-requires c κs = search needs

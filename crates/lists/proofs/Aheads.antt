@@ -1,15 +1,12 @@
 -- Laws of writing ahead: bytes behind a piece are written over by the next one. Assumes nothing.
 use mathlib.Core.Path.{_≡_, refl, ap, sym, _∙_}
 use mathlib.Core.List.{List, [], _∷_, _++_, append-assoc, append-nil}
-use Prim.Native.Nat.{ℕ, zero, suc, _+_, _-_, _/_, _%_, _≤_, _<_, min}
+use Prim.Native.Nat.{ℕ, suc, _+_, _-_, _≤_, _<_, min}
 use native.Mathlib.Omega.{arith}
-use lib.ListN.{length, set, drop, length-append, length-drop}
-use lib.Seq.{sets, set-set, set-comm}
-use Rattle.lists.specs.Write.{put, Put, top}
-use Rattle.lists.proofs.Writes.{_then_, put-length}
-use Rattle.spec_numbers.specs.LittleEndian.{leBytes}
-use Rattle.spec_numbers.proofs.ByteLaws.{length-leBytes, leBytes-step}
-use Rattle.encode.specs.Ahead.{Ahead}
+use lib.ListN.{length, set, take, drop, length-append, length-drop}
+use lib.Seq.{sets, set-set, set-comm, take-set-le, take-at, length-take-le}
+use Rattle.lists.specs.Write.{put, Put, Ahead, ByWords, top}
+use Rattle.lists.proofs.Writes.{_then_, put-length, put-fits}
 
 -- a second piece behind a first
 put-on : (out s t : List ℕ) (at k : ℕ) → length out ≤ top → k ≡ min (at + length s) top → put (put out at s) k t ≡ put out at (s ++ t)
@@ -31,6 +28,12 @@ put-over out k [] (b ∷ t) = ap (λ (m : List ℕ). sets (set out k b) (suc k) 
 put-over out k (a ∷ s) (b ∷ t) =
     ap (λ (m : List ℕ). sets m (suc k) t) (set-first (set out k a) k (suc k) b s (omega arith) ∙ ap (λ (m : List ℕ). sets m (suc k) s) (set-set out k a b))
     ∙ put-over (set out k b) (suc k) s t
+
+-- what stands in front of a piece stays
+put-front : (out : List ℕ) (k n : ℕ) (s : List ℕ) → n ≤ k → take n (put out k s) ≡ take n out
+unfolding put
+put-front out k n [] h = refl
+put-front out k n (b ∷ s) h = put-front (set out k b) (suc k) n s (omega arith) ∙ take-set-le n out k b h
 
 module _ {out : List ℕ} {at : ℕ} where
   -- one piece and then another, which goes over what is behind the first
@@ -68,28 +71,26 @@ module _ {out : List ℕ} {at : ℕ} where
   pub ahead-length : {s o : List ℕ} {d r : ℕ} → Ahead out at s d o r → length o ≡ length out
   ahead-length {s} p = rw (p .bytes) (put-length out at (s ++ p .behind))
 
+  -- one piece by words and then another
+  pub _and-words_ : {s t o₁ o₂ : List ℕ} {r₁ r₂ : ℕ} → ByWords out at s o₁ r₁ → ByWords o₁ r₁ t o₂ r₂ → ByWords out at (s ++ t) o₂ r₂
+  _and-words_ p q = _and-then_ p (q, omega arith)
+
+  pub as-words : {s o : List ℕ} {r : ℕ} → Put out at s o r → ByWords out at s o r
+  as-words p = more-ahead (omega arith) (not-ahead p)
+
+  -- what stands in front of the next position, where the piece fits
+  pub ahead-front : {s o : List ℕ} {d r : ℕ} → Ahead out at s d o r → at + length s ≤ length out → take r o ≡ take at out ++ s
+  ahead-front {s} {o} {d} {r} p h =
+      let n : r ≡ at + length s = omega (arith, p .next, p .small) in
+      let e : length (take at out ++ s) ≡ r = omega (arith, length-append (take at out) s, length-take-le at out (omega arith)) in
+      ap (take r) (p .bytes ∙ sym (put-on out s (p .behind) at r (p .small) (p .next)))
+      ∙ (put-front (put out at s) r r (p .behind) (omega arith)
+      ∙ (ap (take r) (put-fits out at s h)
+      ∙ take-at (take at out ++ s) (drop (at + length s) out) r e))
+
+  -- the same piece by another name
+  pub same-ahead : {s t o : List ℕ} {d r : ℕ} → s ≡ t → Ahead out at s d o r → Ahead out at t d o r
+  same-ahead e p = rw e at p
+
 infixl 20 _and-then_
--- the first bytes of a number
-leBytes-front : (w n v : ℕ) → w ≤ n → leBytes n v ≡ leBytes w v ++ drop w (leBytes n v)
-unfolding leBytes
-leBytes-front zero n v h = refl
-leBytes-front (suc w) zero v h = absurd (omega arith)
-leBytes-front (suc w) (suc n) v h = ap (λ (m : List ℕ). v % 256 ∷ m) (leBytes-front w n (v / 256) (omega arith))
-
--- a byte of a number is written, and those behind it follow
-pub one-byte : (out : List ℕ) (at i v : ℕ) → i < 8 → put out (at + i) (leBytes (8 - i) v) ≡ put (set out (at + i) (v % 256)) (at + (i + 1)) (leBytes (8 - (i + 1)) (v / 256))
-unfolding put
-one-byte out at i v h =
-    let e : 8 - i - 1 ≡ 8 - (i + 1) = omega arith in
-    let k : at + (i + 1) ≡ suc (at + i) = omega arith in
-    rw (leBytes-step (8 - i) v (omega arith), e, k)
-
--- eight bytes of which w are the piece
-pub wide : {out o : List ℕ} {k : ℕ} (w v : ℕ) → w ≤ 8 → length out ≤ top → k + 8 ≤ length out → o ≡ put out k (leBytes 8 v) → Ahead out k (leBytes w v) 8 o (k + w)
-wide {out} {o} {k} w v h l g e = record {
-  small = l;
-  next = omega (arith, length-leBytes w v);
-  behind = drop w (leBytes 8 v);
-  few = omega (arith, length-drop w (leBytes 8 v), length-leBytes 8 v);
-  bytes = e ∙ ap (put out k) (leBytes-front w 8 v h);
-}
+infixl 20 _and-words_

@@ -1,0 +1,126 @@
+// Numbers as text by whole words. A listing prints numbers of all sizes in any order, and a branch that depends on their digits costs
+// more than a store of eight bytes.
+ghost use mathlib.Core.Path.{_≡_};
+ghost use mathlib.Core.List.{[], _∷_, _++_};
+ghost use Prim.Native.Nat.{_+_, _<_, _≤_, _/_, _%_};
+ghost use lib.ListN.{length};
+ghost use Rattle.lists.specs.Choice.{pick};
+ghost use Rattle.lists.specs.Write.{ByWords};
+ghost use Rattle.spec_numbers.specs.LittleEndian.{le};
+ghost use Rattle.spec_numbers.specs.Print.{decimal, hexLower4};
+ghost use Rattle.numbers.specs.Digits.{fourDigits, fourHexDigits};
+use crate::little_endian::has_room;
+use crate::little_endian::put_word;
+use crate::little_endian::set_word;
+use crate::print_hex::digit_char;
+use slices::widen::wide_byte;
+
+fn one_if(more: bool) -> usize
+    ensures { λ r. ⌜ (r ≡ pick more 1 0) × (r ≤ 1) ⌝ }
+{
+    if more { 1 } else { 0 }
+}
+
+// How many digits a number below 10000 has.
+fn digit_count(n: u64) -> usize
+    requires { ⌜ n < 10000 ⌝ }
+    ensures { λ r. ⌜ r ≡ length (decimal n) ⌝ }
+{
+    1 + one_if(9 < n) + one_if(99 < n) + one_if(999 < n)
+}
+
+// The two digits of a number below 100 as bytes of a word, the first the lowest.
+fn pair_word(n: u64) -> u64
+    requires { ⌜ n < 100 ⌝ }
+    ensures { λ r. ⌜ (r ≡ le ((48 + n / 10) ∷ (48 + n % 10) ∷ [])) × (r < 65536) ⌝ }
+{
+    48 + n / 10 + (48 + n % 10) * 256
+}
+
+// Four digits, with zeros in front.
+fn four_word(n: u64) -> u64
+    requires { ⌜ n < 10000 ⌝ }
+    ensures { λ r. ⌜ (r ≡ le (fourDigits n)) × (r < 4294967296) ⌝ }
+{
+    pair_word(n / 100) + pair_word(n % 100) * 65536
+}
+
+// A number of at most four digits: the zeros in front are shifted out.
+fn put_small_word(out: &mut [u8], at: usize, n: u64) -> usize
+    requires { ⌜ (n < 10000) × (at + 8 ≤ length (now out)) ⌝ }
+    ensures { λ r. ⌜ ByWords (now (out .entry)) at (decimal n) (now (out .exit)) r ⌝ }
+    ensures { λ r. ⌜ r ≤ at + 4 ⌝ }
+{
+    let w = digit_count(n);
+    set_word(out, at, w, four_word(n) >> (32 - 8 * w))
+}
+
+// Four digits, with zeros in front.
+fn put_four_word(out: &mut [u8], at: usize, n: u64) -> usize
+    requires { ⌜ (n < 10000) × (at + 8 ≤ length (now out)) ⌝ }
+    ensures { λ r. ⌜ ByWords (now (out .entry)) at (fourDigits n) (now (out .exit)) r ⌝ }
+{
+    set_word(out, at, 4, four_word(n))
+}
+
+// Eight digits, with zeros in front.
+fn put_eight_word(out: &mut [u8], at: usize, n: u64) -> usize
+    requires { ⌜ (n < 100000000) × (at + 8 ≤ length (now out)) ⌝ }
+    ensures { λ r. ⌜ ByWords (now (out .entry)) at (fourDigits (n / 10000) ++ fourDigits (n % 10000)) (now (out .exit)) r ⌝ }
+{
+    let front = four_word(n / 10000);
+    set_word(out, at, 8, front + four_word(n % 10000) * 0x1_0000_0000)
+}
+
+// A number of at most twelve digits, where there is room for two words.
+fn put_digits(out: &mut [u8], at: usize, n: u64) -> usize
+    requires { ⌜ (n < 1000000000000) × (at + 12 ≤ length (now out)) ⌝ }
+    ensures { λ r. ⌜ ByWords (now (out .entry)) at (decimal n) (now (out .exit)) r ⌝ }
+    ensures { λ r. ⌜ r ≤ at + 12 ⌝ }
+{
+    if n < 10000 {
+        return put_small_word(out, at, n);
+    }
+    if n < 100000000 {
+        let k = put_small_word(out, at, n / 10000);
+        return put_four_word(out, k, n % 10000);
+    }
+    let k = put_small_word(out, at, n / 100000000);
+    put_eight_word(out, k, n % 100000000)
+}
+
+// Writes n in decimal. Where there is no room for words, the digits are written beside it and copied as far as they fit.
+pub fn put_decimal(out: &mut [u8], at: usize, n: u64) -> usize
+    requires { ⌜ n < 1000000000000 ⌝ }
+    ensures { λ r. ⌜ ByWords (now (out .entry)) at (decimal n) (now (out .exit)) r ⌝ }
+{
+    if has_room(out.len(), at, 4) {
+        return put_digits(out, at, n);
+    }
+    let mut digits = [0u8; 24];
+    let k = put_digits(&mut digits, 0, n);
+    slices::write::put_bytes(out, at, &digits[0..k])
+}
+
+// The four hexadecimal digits of a number and two spaces, as they stand in front of a listed line.
+fn offset_word(n: u64) -> u64
+    requires { ⌜ n < 65536 ⌝ }
+    ensures { λ r. ⌜ r ≡ le (fourHexDigits 97 n ++ (32 ∷ 32 ∷ [])) ⌝ }
+{
+    let a = wide_byte(digit_char(n / 4096, 97));
+    let b = wide_byte(digit_char(n / 256 % 16, 97));
+    let c = wide_byte(digit_char(n / 16 % 16, 97));
+    let d = wide_byte(digit_char(n % 16, 97));
+    a + b * 256 + c * 65536 + d * 0x100_0000 + 0x2020_0000_0000
+}
+
+// Writes them: `{:04x}` and two spaces.
+pub fn put_offset(out: &mut [u8], at: usize, n: u64) -> usize
+    ensures { λ r. ⌜ ByWords (now (out .entry)) at (hexLower4 n ++ (32 ∷ 32 ∷ [])) (now (out .exit)) r ⌝ }
+{
+    if n < 65536 {
+        return put_word(out, at, 6, offset_word(n));
+    }
+    let k = crate::print_hex::put_hex_lower4(out, at, n);
+    slices::write::put_bytes(out, k, b"  ")
+}

@@ -86,11 +86,11 @@
 /* The same, label entries: one for each instruction. */
 #define DESK_CARRY_LABELS(n) DESK_LEAST(n, DESK_MAX_BODY)
 
-/* Stack for a thread that calls any of the functions: the deepest call, desk_assemble, was measured at 879,231 bytes. */
+/* Stack for a thread that calls any of the functions: the deepest call, desk_assemble, was measured at 879,215 bytes. */
 #define DESK_STACK 1048576
 
-/* Stack for one that lists, where DESK_LIST_ENTRIES are lent or no label lies past the body: 79,559 bytes were measured. Where
-   fewer are lent and labels, shown or not, lie past the body it is too little: 349,007 were measured. */
+/* Stack for one that lists, where DESK_LIST_ENTRIES are lent or no label lies past the body: 84,015 bytes were measured. Where
+   fewer are lent and labels that are shown lie past the body it is too little: 355,167 were measured. */
 #define DESK_LIST_STACK 131072
 
 #ifdef __cplusplus
@@ -155,7 +155,7 @@ struct desk_answer desk_encode(const uint8_t *sheet, size_t sheet_len, const uin
 
 /* Lists a body, with offsets, labels and texts shown or not. length counts the bytes of the text. One label entry is
    needed for each different label offset, none where labels are not shown.
-   Stack 77 KiB, time 1.0 to 1.6 ms; up to 341 KiB and 0.2 s where labels, shown or not, lie past the body and fewer than
+   Stack 83 KiB, time 0.6 to 1.6 ms; up to 347 KiB and 0.2 s where labels that are shown lie past the body and fewer than
    DESK_LIST_ENTRIES are lent. */
 struct desk_answer desk_list(const uint8_t *sheet, size_t sheet_len, const uint8_t *bytes, size_t bytes_len,
                              const uint32_t *ends, size_t ends_len, const uint8_t *body, size_t body_len, bool offsets,
@@ -163,7 +163,7 @@ struct desk_answer desk_list(const uint8_t *sheet, size_t sheet_len, const uint8
                              size_t entries_len);
 
 /* The same for function number id of an area.
-   Stack 77 KiB, time 1.0 to 1.6 ms; up to 341 KiB and 0.2 s where labels, shown or not, lie past the body and fewer than
+   Stack 83 KiB, time 0.6 to 1.6 ms; up to 347 KiB and 0.2 s where labels that are shown lie past the body and fewer than
    DESK_LIST_ENTRIES are lent. */
 struct desk_answer desk_list_function(const uint8_t *sheet, size_t sheet_len, const uint8_t *bytes, size_t bytes_len,
                                       const uint32_t *ends, size_t ends_len, const uint32_t *functions,
@@ -173,7 +173,7 @@ struct desk_answer desk_list_function(const uint8_t *sheet, size_t sheet_len, co
 
 /* Lists all functions of an area, each under a line that names it. Label entries are needed for one function at a time:
    as many as the function with the most different label offsets has.
-   Stack 78 KiB, time as for listing each function; up to 341 KiB where labels, shown or not, lie past a body and fewer than
+   Stack 83 KiB, time as for listing each function; up to 347 KiB where labels that are shown lie past a body and fewer than
    DESK_LIST_ENTRIES are lent. */
 struct desk_answer desk_list_module(const uint8_t *sheet, size_t sheet_len, const uint8_t *bytes, size_t bytes_len,
                                     const uint32_t *ends, size_t ends_len, const uint32_t *functions,

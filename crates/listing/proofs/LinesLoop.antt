@@ -131,10 +131,10 @@ none-left (ended g) h = refl
 none-left (more g l k d) h = absurd (omega arith)
 
 -- a line is within the limit, or too long, by the positions around it
-line-size : (a n c : ℕ) → a ≤ 12030 → c ≡ min (a + n) top → c - a ≤ 4096 → (n ≤ 4096) × (c ≡ a + n)
+line-size : (a n c : ℕ) → a ≤ 2030 → c ≡ min (a + n) top → c - a ≤ 4096 → (n ≤ 4096) × (c ≡ a + n)
 line-size a n c h e k = (omega (arith, e), omega (arith, e))
 
-line-over : (a n c : ℕ) → a ≤ 12030 → c ≡ min (a + n) top → 4096 < c - a → 4096 < n
+line-over : (a n c : ℕ) → a ≤ 2030 → c ≡ min (a + n) top → 4096 < c - a → 4096 < n
 line-over a n c h e k = omega (arith, e)
 
 -- the lines of a record are its label's and its own
@@ -192,7 +192,7 @@ module _ {p : Printing} {rs : List (List ℕ)} {out₀ : List ℕ} {«from» : �
 
     module _ {block′ : List ℕ} {a c : ℕ} (m : Given p) (few : n ≤ lineStart) (l : Line p at block n block′ a c) where
       -- where a line starts
-      low-start : (a ≤ 12030) × (a ≡ n + length (flaggedText (p .o .showLabels) (p .flags) (p .indent) at))
+      low-start : (a ≤ 2030) × (a ≡ n + length (flaggedText (p .o .showLabels) (p .flags) (p .indent) at))
       low-start =
           let q = label-short (p .o .showLabels) (p .flags) (p .indent) at (m .indent-size) in
           (omega (arith, l .label-put .next, q), omega (arith, l .label-put .next, q))

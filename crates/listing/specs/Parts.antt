@@ -51,10 +51,10 @@ pub data Lined (t : List ℕ) (long : Found) (out : List ℕ) («from» : ℕ) (
 
 -- how long a block is that lines are gathered in, and where the last line in it starts at most
 abbrev pub blockSize : ℕ
-blockSize = 16384
+blockSize = 6144
 
 abbrev pub lineStart : ℕ
-lineStart = 12000
+lineStart = 2000
 
 -- the n bytes of a block were written at `k` and are kept no more, or have room for a line behind them: the buffer was `out` and is `out′`
 pub data RoomMade (block : List ℕ) (n : ℕ) (out : List ℕ) (k : ℕ) (out′ : List ℕ) (r : Gathered) : Type 0 where

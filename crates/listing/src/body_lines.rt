@@ -25,10 +25,10 @@ pub enum Lines {
 
 // Lines are gathered in a block, where what stands behind them does not matter, and go to the output a block at once. So a line is
 // written by words, whatever room the output has.
-const BLOCK: usize = 16384;
+const BLOCK: usize = 6144;
 
 // Where a block may be and still have room for a line: the label's, an instruction of the most bytes, and LF.
-const LINE_START: usize = 12000;
+const LINE_START: usize = 2000;
 
 // The next position of the output, and how many bytes of the block are still to be written there.
 struct Gathered {

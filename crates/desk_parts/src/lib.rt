@@ -101,7 +101,9 @@ pub extern "C" fn part_print_decimal(n: u64, out: &mut [u8]) -> usize
 pub extern "C" fn part_print_signed(bits: u32, out: &mut [u8]) -> usize
     ensures { λ r. ⌜ Put (now (out .entry)) 0 (signedDecimal (signed 32 bits)) (now (out .exit)) r ⌝ }
 {
-    numbers::print_decimal::put_signed(out, 0, bits)
+    let mut text = [0u8; 32];
+    let k = numbers::print_words::put_signed(&mut text, 0, true, bits as u64);
+    slices::write::put_bytes(out, 0, &text[0..k])
 }
 
 // Prints `{:04x}`.

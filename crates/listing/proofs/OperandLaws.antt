@@ -1,19 +1,17 @@
 -- The text of one operand, by its family. Assumes nothing.
-use mathlib.Core.Path.{_≡_, refl, ap, _∙_}
+use mathlib.Core.Path.{_≡_, refl}
 use mathlib.Core.Bool.{Bool, true, false}
-use mathlib.Core.List.{List, _++_, append-assoc}
-use Prim.Native.Nat.{ℕ, suc, _-_, _^_, _≤_, _<_}
+use mathlib.Core.List.{List, _++_}
+use Prim.Native.Nat.{ℕ, _-_, _^_, _≤_, _<_}
 use native.Mathlib.Nat.{lt-of-lt-of-le, pow-le-pow-right}
 use native.Mathlib.Omega.{arith}
 use lib.Dec.{eqb, ltb, leb}
 use lib.ListN.{length, List·getD-eq-default}
-use borrow.Author.Tests.{ltb-true, leb-true, lt-ltb, le-ltb, le-leb, ne-eqb}
+use borrow.Author.Tests.{ltb-true, leb-true, le-leb, ne-eqb}
 use Rattle.lists.specs.Choice.{pick, both}
 use Rattle.lists.specs.Scan.{part}
 use Rattle.lists.proofs.Tests.{by-leb, by-eqb, both-left, both-right, true-not-false}
-use Rattle.spec_numbers.specs.LittleEndian.{leBytes}
-use Rattle.spec_numbers.specs.Print.{decimal, signedDecimal}
-use Rattle.spec_numbers.specs.TwosComplement.{signed}
+use Rattle.spec_numbers.specs.Print.{decimal}
 use Rattle.spec_numbers.specs.Double.{printDouble}
 use Rattle.spec_sheet.specs.Types.{widths, widthOf, familyOf}
 use Rattle.spec_sheet.proofs.TypeLaws.{below, implies, by-codes}
@@ -57,21 +55,6 @@ short-bits code bits f h =
     (λ l. leb-true (widthOf code) 4 (by-codes (λ d. leb (familyOf d) 5) (λ d. leb (widthOf d) 4) refl code l (le-leb (familyOf code) 5 f)))
     (λ l. let z : length widths ≤ code = omega arith in omega (arith, List·getD-eq-default widths 0 z)) in
     lt-of-lt-of-le h (pow-le-pow-right {n = 256} (omega arith) w)
-
--- a number with its sign is the sign and the digits
-pub signed-text : (b : Bool) (n : ℕ) → n < 4294967296
-    → leBytes (pick (both b (ltb 2147483647 n)) 1 0) 45 ++ decimal (pick (both b (ltb 2147483647 n)) (4294967296 - n) n) ≡ pick b (signedDecimal (signed 32 n)) (decimal n)
-unfolding leBytes signedDecimal
-signed-text false n h = refl
-signed-text true n h =
-    by-leb n 2147483647 (λ l. rw (le-ltb 2147483647 n l, lt-ltb n 2147483648 (omega arith)) refl)
-    (λ l. let e : suc (4294967296 - suc n) ≡ 4294967296 - n = omega arith in rw (lt-ltb 2147483647 n l, le-ltb n 2147483648 (omega arith), e) refl)
-
--- a number with what stands in front of it is three pieces
-pub number-parts : (family n : ℕ) → n < 4294967296
-    → frontText family ++ leBytes (pick (both (ltb 3 family) (ltb 2147483647 n)) 1 0) 45 ++ decimal (pick (both (ltb 3 family) (ltb 2147483647 n)) (4294967296 - n) n) ≡ frontText family ++ valueText family n
-unfolding valueText
-number-parts family n h = append-assoc (frontText family) _ _ ∙ ap (λ (t : List ℕ). frontText family ++ t) (signed-text (ltb 3 family) n h)
 
 -- by family
 module _ (texts : Bool) (bytes ends : List ℕ) (at code bits : ℕ) where

@@ -14,7 +14,7 @@ use Rattle.lists.specs.Scan.{part}
 use Rattle.lists.specs.Text.{text}
 use Rattle.lists.specs.Write.{ByWords, top}
 use Rattle.lists.proofs.Aheads.{_and-words_}
-use Rattle.lists.proofs.LeftToWrite.{LeftByWords, words-all, words-turn, words-none}
+use Rattle.lists.proofs.LeftToWrite.{LeftAhead, left-all, left-ahead, left-done}
 use Rattle.spec_numbers.specs.LittleEndian.{le}
 use Rattle.spec_sheet.specs.Types.{widthOf}
 use Rattle.spec_sheet.specs.Row.{sumBy, lengthOf, totalWidth}
@@ -36,11 +36,11 @@ module _ (texts : Bool) (bytes ends s : List ℕ) (at : ℕ) where
 pub record Going (texts : Bool) (bytes ends s row : List ℕ) (at : ℕ) (out₀ : List ℕ) (k : ℕ) (out : List ℕ) (n p i : ℕ) : Type 0 where
   pub few : i ≤ 8
   pub room : p + totalWidth (drop i row) ≤ length s
-  pub left : LeftByWords (operandTexts texts bytes ends at (text " ") row (pairs row s (at + 1))) out₀ k (operandTexts texts bytes ends at (pick (eqb i 0) (text " ") (text ", ")) (drop i row) (pairs (drop i row) s p)) out n
+  pub left : LeftAhead 8 (operandTexts texts bytes ends at (text " ") row (pairs row s (at + 1))) out₀ k (operandTexts texts bytes ends at (pick (eqb i 0) (text " ") (text ", ")) (drop i row) (pairs (drop i row) s p)) out n
 
 module _ {texts : Bool} {bytes ends s row : List ℕ} {at : ℕ} {out₀ : List ℕ} {k : ℕ} where
   pub start : length out₀ ≤ top → k ≤ top → at + lengthOf row ≤ length s → Going texts bytes ends s row at out₀ k out₀ k (at + 1) 0
-  start h l r = record { few = omega arith; room = omega arith; left = words-all h l }
+  start h l r = record { few = omega arith; room = omega arith; left = left-all h l }
 
   module _ {out : List ℕ} {n p i : ℕ} (g : Going texts bytes ends s row at out₀ k out n p i) where
     -- the bytes of operand i are there
@@ -61,7 +61,7 @@ module _ {texts : Bool} {bytes ends s row : List ℕ} {at : ℕ} {out₀ : List 
         record {
           few = omega arith;
           room = operand-room w r u;
-          left = words-turn (g .left)
+          left = left-ahead (g .left)
               (rw (x, q, u, c, add-one i, drop-cons row i 0 r) (first-operand texts bytes ends s at _ (getD row i 0) (drop (suc i) row) p (λ y. z (c ∙ y))))
               (a and-words b);
         }
@@ -70,9 +70,9 @@ module _ {texts : Bool} {bytes ends s row : List ℕ} {at : ℕ} {out₀ : List 
     pub stopped : (code : ℕ) → i < 8 → length row ≡ 8 → code ≡ getD row i 0 → code ≡ 0 → ByWords out₀ k (operandTexts texts bytes ends at (text " ") row (pairs row s (at + 1))) out n
     stopped code h l c z =
         let r : i < length row = omega arith in
-        words-none (g .left) (rw (drop-cons row i 0 r) (no-operand texts bytes ends s at _ (getD row i 0) (drop (suc i) row) p (sym c ∙ z)))
+        left-done (g .left) (rw (drop-cons row i 0 r) (no-operand texts bytes ends s at _ (getD row i 0) (drop (suc i) row) p (sym c ∙ z)))
 
     -- and so do eight
     pub ended : 8 ≤ i → length row ≡ 8 → ByWords out₀ k (operandTexts texts bytes ends at (text " ") row (pairs row s (at + 1))) out n
     unfolding operandTexts
-    ended h l = let r : length row ≤ i = omega arith in words-none (g .left) (rw (drop-of-length-le row r))
+    ended h l = let r : length row ≤ i = omega arith in left-done (g .left) (rw (drop-of-length-le row r))

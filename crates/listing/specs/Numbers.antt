@@ -5,7 +5,7 @@ use lib.Dec.{eqb, ltb}
 use Rattle.lists.specs.Choice.{pick}
 use Rattle.spec_numbers.specs.Print.{decimal, signedDecimal}
 use Rattle.spec_numbers.specs.TwosComplement.{signed}
-use Rattle.spec_sheet.specs.Types.{regFamily, addrFamily}
+use Rattle.spec_sheet.specs.Types.{regFamily, stringFamily, addrFamily}
 
 -- r for a register, L for a target
 unfoldable pub frontText : ℕ → List ℕ
@@ -13,4 +13,4 @@ frontText family = pick (eqb family regFamily) (114 ∷ []) (pick (eqb family ad
 
 -- Addr and Imm32, the families behind the strings', are signed numbers of 32 bits
 unfoldable pub valueText : ℕ → ℕ → List ℕ
-valueText family n = pick (ltb 3 family) (signedDecimal (signed 32 n)) (decimal n)
+valueText family n = pick (ltb stringFamily family) (signedDecimal (signed 32 n)) (decimal n)

@@ -56,7 +56,8 @@ blockSize = 6144
 abbrev pub lineStart : ℕ
 lineStart = 2000
 
--- the n bytes of a block were written at `k` and are kept no more, or have room for a line behind them: the buffer was `out` and is `out′`
+-- the n bytes of a block were written at `k` and are kept no more, or have room for a line behind them: the buffer was `out` and is
+-- `out′`
 pub data RoomMade (block : List ℕ) (n : ℕ) (out : List ℕ) (k : ℕ) (out′ : List ℕ) (r : Gathered) : Type 0 where
   gone : Put out k (take n block) out′ (r .next) → r .kept ≡ 0 → RoomMade block n out k out′ r
   stays : n ≤ lineStart → out′ ≡ out → r .next ≡ k → r .kept ≡ n → RoomMade block n out k out′ r

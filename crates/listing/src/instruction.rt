@@ -34,7 +34,7 @@ fn put_name(out: &mut [u8], k: usize, sheet: &[u8], start: usize, size: usize) -
     if size == 0 {
         return put_bytes(out, k, b"<invalid>");
     }
-    numbers::little_endian::put_part(out, k, sheet, start, size)
+    numbers::words::put_part(out, k, sheet, start, size)
 }
 
 // Writes the instruction at `at` of the body s, under a sheet's text and tables and a string table.

@@ -15,8 +15,9 @@ ghost use Rattle.spec_body.specs.Record.{pairs};
 ghost use Rattle.spec_listing.specs.Operand.{targetOf, stringText, operandText, operandTexts};
 ghost use Rattle.listing.specs.Numbers.{frontText, valueText};
 use list_labels::target::target_of;
-use numbers::little_endian::put_word;
 use numbers::print_words::put_decimal;
+use numbers::print_words::put_signed;
+use numbers::words::put_word;
 use sheet::operand_types::ADDR_FAMILY;
 use sheet::operand_types::IMM32_FAMILY;
 use sheet::operand_types::REG_FAMILY;
@@ -55,37 +56,13 @@ fn front_byte(family: u8) -> u64
     if family == REG_FAMILY { 114 } else { 76 }
 }
 
-// Whether a number of 32 bits is below zero, where it is a signed one.
-fn is_negative(signed: bool, n: u64) -> bool
-    ensures { λ r. ⌜ r ≡ both signed (ltb 2147483647 n) ⌝ }
-{
-    if signed { 0x7fff_ffff < n } else { false }
-}
-
-// A number without its sign.
-fn magnitude(negative: bool, n: u64) -> u64
-    requires { ⌜ n < 4294967296 ⌝ }
-    ensures { λ r. ⌜ (r ≡ pick negative (4294967296 - n) n) × (r ≤ 4294967296) ⌝ }
-{
-    if negative { 0x1_0000_0000 - n } else { n }
-}
-
-fn sign_size(negative: bool) -> usize
-    ensures { λ r. ⌜ (r ≡ pick negative 1 0) × (r ≤ 1) ⌝ }
-{
-    if negative { 1 } else { 0 }
-}
-
-// Writes a number of a family, its sign and what stands in front of it by the same three steps whatever they are, since a branch by
-// the family costs more than a step.
+// Writes a number of a family with what stands in front of it, by the same steps whatever the family, since a branch costs more.
 fn put_number(out: &mut [u8], k: usize, family: u8, n: u64) -> usize
     requires { ⌜ n < 4294967296 ⌝ }
     ensures { λ r. ⌜ ByWords (now (out .entry)) k (frontText family ++ valueText family n) (now (out .exit)) r ⌝ }
 {
     let a = put_word(out, k, front_size(family), front_byte(family));
-    let negative = is_negative(STRING_FAMILY < family, n);
-    let b = put_word(out, a, sign_size(negative), 45);
-    put_decimal(out, b, magnitude(negative, n))
+    put_signed(out, a, STRING_FAMILY < family, n)
 }
 
 // Whether a family has numbers: Reg, UInt, Addr and Imm32, beside the strings' ids.

@@ -1,16 +1,18 @@
 -- Digits as the bytes of a word. Assumes nothing.
 use mathlib.Core.Path.{_≡_, refl, ap, sym, _∙_}
+use mathlib.Core.Bool.{Bool, true, false}
 use mathlib.Core.List.{List, [], _∷_, _++_}
 use Prim.Native.Nat.{ℕ, zero, suc, _+_, _-_, _*_, _/_, _%_, _^_, _≤_, _<_}
 use native.Mathlib.Omega.{arith}
 use lib.Dec.{ltb}
 use borrow.Author.Tests.{lt-ltb, le-ltb}
 use lib.ListN.{length}
-use Rattle.lists.specs.Choice.{pick}
+use Rattle.lists.specs.Choice.{pick, both}
 use Rattle.lists.specs.Scan.{Bytes}
 use Rattle.lists.proofs.Tests.{by-leb}
 use Rattle.spec_numbers.specs.LittleEndian.{le, leBytes}
-use Rattle.spec_numbers.specs.Print.{digit, decimal, hexLower, hexLower4}
+use Rattle.spec_numbers.specs.Print.{digit, decimal, signedDecimal, hexLower, hexLower4}
+use Rattle.spec_numbers.specs.TwosComplement.{signed}
 use Rattle.spec_numbers.proofs.ByteLaws.{leBytes-le}
 use Rattle.numbers.specs.Digits.{fourDigits, fourHexDigits}
 use Rattle.numbers.proofs.ByteSums.{le-append, le-shift, bytes-bits}
@@ -110,6 +112,15 @@ eight-digits m n g h =
     rw e
     (leBytes-le (fourDigits m ++ fourDigits n)
     (bytes-each (fourDigits m ++ fourDigits n) (omega arith, (omega arith, (omega arith, (omega arith, (omega arith, (omega arith, (omega arith, (omega arith, omega arith))))))))))
+
+-- a number with its sign is the sign and the digits
+pub signed-text : (b : Bool) (n : ℕ) → n < 4294967296
+    → leBytes (pick (both b (ltb 2147483647 n)) 1 0) 45 ++ decimal (pick (both b (ltb 2147483647 n)) (4294967296 - n) n) ≡ pick b (signedDecimal (signed 32 n)) (decimal n)
+unfolding leBytes signedDecimal
+signed-text false n h = refl
+signed-text true n h =
+    by-leb n 2147483647 (λ l. rw (le-ltb 2147483647 n l, lt-ltb n 2147483648 (omega arith)) refl)
+    (λ l. let e : suc (4294967296 - suc n) ≡ 4294967296 - n = omega arith in rw (lt-ltb 2147483647 n l, le-ltb n 2147483648 (omega arith), e) refl)
 
 digit-byte : (d : ℕ) → d < 16 → digit 97 d < 256
 unfolding digit

@@ -9,3 +9,4 @@ pub mod read_double; // a double as it is read
 pub mod signed; // two's complement, and sums that wrap
 pub mod value; // the f64 of 64 bits
 pub mod whole; // which doubles are whole
+pub mod words; // bytes written by whole words

@@ -2,8 +2,7 @@
 ghost use mathlib.Core.List.{[], _∷_, _++_};
 ghost use Prim.Native.Nat.{_+_, _<_, _/_, _%_};
 ghost use Rattle.lists.specs.Write.{Put};
-ghost use Rattle.spec_numbers.specs.Print.{decimal, signedDecimal};
-ghost use Rattle.spec_numbers.specs.TwosComplement.{signed};
+ghost use Rattle.spec_numbers.specs.Print.{decimal};
 ghost use Rattle.numbers.specs.Digits.{fourDigits};
 use slices::write::put_byte;
 use slices::write::put_bytes;
@@ -106,16 +105,4 @@ pub fn put_decimal(out: &mut [u8], at: usize, n: u64) -> usize
     }
     let k = put_large(out, at, n / 100000000);
     put_eight(out, k, n % 100000000)
-}
-
-// Writes the signed number of 32 bits in decimal.
-pub fn put_signed(out: &mut [u8], at: usize, bits: u32) -> usize
-    ensures { λ r. ⌜ Put (now (out .entry)) at (signedDecimal (signed 32 bits)) (now (out .exit)) r ⌝ }
-{
-    let n = bits as u64;
-    if n < 0x8000_0000 {
-        return put_decimal(out, at, n);
-    }
-    let k = put_byte(out, at, 45);
-    put_decimal(out, k, 0x1_0000_0000 - n)
 }

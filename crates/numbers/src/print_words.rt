@@ -2,17 +2,19 @@
 // more than a store of eight bytes.
 ghost use mathlib.Core.Path.{_≡_};
 ghost use mathlib.Core.List.{[], _∷_, _++_};
-ghost use Prim.Native.Nat.{_+_, _<_, _≤_, _/_, _%_};
+ghost use Prim.Native.Nat.{_+_, _-_, _<_, _≤_, _/_, _%_};
+ghost use lib.Dec.{ltb};
 ghost use lib.ListN.{length};
-ghost use Rattle.lists.specs.Choice.{pick};
+ghost use Rattle.lists.specs.Choice.{pick, both};
 ghost use Rattle.lists.specs.Write.{ByWords};
 ghost use Rattle.spec_numbers.specs.LittleEndian.{le};
-ghost use Rattle.spec_numbers.specs.Print.{decimal, hexLower4};
+ghost use Rattle.spec_numbers.specs.Print.{decimal, signedDecimal, hexLower4};
+ghost use Rattle.spec_numbers.specs.TwosComplement.{signed};
 ghost use Rattle.numbers.specs.Digits.{fourDigits, fourHexDigits};
-use crate::little_endian::has_room;
-use crate::little_endian::put_word;
-use crate::little_endian::set_word;
 use crate::print_hex::digit_char;
+use crate::words::has_room;
+use crate::words::put_word;
+use crate::words::set_word;
 use slices::widen::wide_byte;
 
 fn one_if(more: bool) -> usize
@@ -100,6 +102,31 @@ pub fn put_decimal(out: &mut [u8], at: usize, n: u64) -> usize
     let mut digits = [0u8; 24];
     let k = put_digits(&mut digits, 0, n);
     slices::write::put_bytes(out, at, &digits[0..k])
+}
+
+// Whether a number of 32 bits is below zero, where `minus` says that it may be.
+fn is_negative(minus: bool, n: u64) -> bool
+    ensures { λ r. ⌜ r ≡ both minus (ltb 2147483647 n) ⌝ }
+{
+    if minus { 0x7fff_ffff < n } else { false }
+}
+
+// A number of 32 bits without its sign.
+fn magnitude(negative: bool, n: u64) -> u64
+    requires { ⌜ n < 4294967296 ⌝ }
+    ensures { λ r. ⌜ (r ≡ pick negative (4294967296 - n) n) × (r ≤ 4294967296) ⌝ }
+{
+    if negative { 0x1_0000_0000 - n } else { n }
+}
+
+// Writes a number of 32 bits in decimal, with a minus sign where it is below zero and `minus` is set.
+pub fn put_signed(out: &mut [u8], at: usize, minus: bool, n: u64) -> usize
+    requires { ⌜ n < 4294967296 ⌝ }
+    ensures { λ r. ⌜ ByWords (now (out .entry)) at (pick minus (signedDecimal (signed 32 n)) (decimal n)) (now (out .exit)) r ⌝ }
+{
+    let negative = is_negative(minus, n);
+    let k = put_word(out, at, one_if(negative), 45);
+    put_decimal(out, k, magnitude(negative, n))
 }
 
 // The four hexadecimal digits of a number and two spaces, as they stand in front of a listed line.

@@ -5,8 +5,8 @@ use lib.ListN.{length}
 use Prim.Native.Nat.{_+_}
 use mathlib.Core.Path.{sym, _∙_}
 use borrow.Author.Needs.{needs}
-use Rattle.numbers.proofs.little_endian.put_part.Statement.{statement}
-use Rattle.numbers.proofs.little_endian.put_part.Tie as tie
+use Rattle.numbers.proofs.words.put_part.Statement.{statement}
+use Rattle.numbers.proofs.words.put_part.Tie as tie
 
 has-room-requires : tie.Need-has-room-requires
 has-room-requires c κs = search needs

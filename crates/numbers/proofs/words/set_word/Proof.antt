@@ -1,8 +1,8 @@
 use Rattle.numbers.proofs.WordLaws.{wide}
 use native.Mathlib.Omega.{arith}
 use borrow.Author.Needs.{needs}
-use Rattle.numbers.proofs.little_endian.set_word.Statement.{statement}
-use Rattle.numbers.proofs.little_endian.set_word.Tie as tie
+use Rattle.numbers.proofs.words.set_word.Statement.{statement}
+use Rattle.numbers.proofs.words.set_word.Tie as tie
 
 put-eight-requires : tie.Need-put-eight-requires
 put-eight-requires c κs = search needs

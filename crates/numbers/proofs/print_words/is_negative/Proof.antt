@@ -1,6 +1,6 @@
 use mathlib.Core.Path.{refl}
-use Rattle.listing.proofs.operand_text.is_negative.Statement.{statement}
-use Rattle.listing.proofs.operand_text.is_negative.Tie as tie
+use Rattle.numbers.proofs.print_words.is_negative.Statement.{statement}
+use Rattle.numbers.proofs.print_words.is_negative.Tie as tie
 
 returns : tie.Need-returns
 returns c = rw (c .if1 .taken) refl

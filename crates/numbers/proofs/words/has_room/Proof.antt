@@ -4,8 +4,8 @@ use native.Mathlib.Omega.{arith}
 use Prim.Native.Nat.{_+_, _-_}
 use mathlib.Core.Path.{sym, _∙_}
 use borrow.Author.Needs.{needs}
-use Rattle.numbers.proofs.little_endian.has_room.Statement.{statement}
-use Rattle.numbers.proofs.little_endian.has_room.Tie as tie
+use Rattle.numbers.proofs.words.has_room.Statement.{statement}
+use Rattle.numbers.proofs.words.has_room.Tie as tie
 
 returns : tie.Need-returns
 returns c = let a = c .before .args in rw (lt-leb (a .at + a .n + 8) (a .len) (omega arith))

@@ -3,8 +3,8 @@ use Rattle.lists.proofs.Aheads.{same-ahead}
 use native.Mathlib.Omega.{arith}
 use Prim.Native.Nat.{_+_, _-_, min}
 use borrow.Author.Needs.{needs}
-use Rattle.numbers.proofs.little_endian.put_next.Statement.{statement}
-use Rattle.numbers.proofs.little_endian.put_next.Tie as tie
+use Rattle.numbers.proofs.words.put_next.Statement.{statement}
+use Rattle.numbers.proofs.words.put_next.Tie as tie
 
 sub-word-size : tie.Need-sub-word-size
 sub-word-size c = search needs

@@ -1,8 +1,8 @@
 use native.Mathlib.Omega.{arith}
 use mathlib.Core.Path.{refl}
 use borrow.Author.Needs.{needs}
-use Rattle.listing.proofs.operand_text.magnitude.Statement.{statement}
-use Rattle.listing.proofs.operand_text.magnitude.Tie as tie
+use Rattle.numbers.proofs.print_words.magnitude.Statement.{statement}
+use Rattle.numbers.proofs.print_words.magnitude.Tie as tie
 
 sub-result : tie.Need-sub-result
 sub-result c = search needs

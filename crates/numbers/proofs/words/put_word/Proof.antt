@@ -5,8 +5,8 @@ use native.Mathlib.Omega.{arith}
 use Prim.Native.Nat.{_+_}
 use mathlib.Core.Path.{_∙_, sym}
 use borrow.Author.Needs.{needs}
-use Rattle.numbers.proofs.little_endian.put_word.Statement.{statement}
-use Rattle.numbers.proofs.little_endian.put_word.Tie as tie
+use Rattle.numbers.proofs.words.put_word.Statement.{statement}
+use Rattle.numbers.proofs.words.put_word.Tie as tie
 
 has-room-requires : tie.Need-has-room-requires
 has-room-requires c κs = search needs

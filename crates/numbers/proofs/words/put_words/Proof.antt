@@ -1,8 +1,8 @@
 use Rattle.numbers.proofs.WordLaws.{three-parts}
 use Rattle.lists.proofs.Aheads.{same-ahead, _and-words_}
 use borrow.Author.Needs.{needs}
-use Rattle.numbers.proofs.little_endian.put_words.Statement.{statement}
-use Rattle.numbers.proofs.little_endian.put_words.Tie as tie
+use Rattle.numbers.proofs.words.put_words.Statement.{statement}
+use Rattle.numbers.proofs.words.put_words.Tie as tie
 
 put-next-requires : tie.Need-put-next-requires
 put-next-requires c κs = search needs

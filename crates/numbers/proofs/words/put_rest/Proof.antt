@@ -7,8 +7,8 @@ use native.Mathlib.Omega.{arith}
 use Prim.Native.Nat.{_+_, _-_, _≤_, min}
 use mathlib.Core.Path.{_≡_, sym}
 use borrow.Author.Needs.{needs}
-use Rattle.numbers.proofs.little_endian.put_rest.Statement.{statement}
-use Rattle.numbers.proofs.little_endian.put_rest.Tie as tie
+use Rattle.numbers.proofs.words.put_rest.Statement.{statement}
+use Rattle.numbers.proofs.words.put_rest.Tie as tie
 
 abbrev Inv-loop : tie.InvT-loop
 Inv-loop out₀ to s at n from k₀ done₀ out k done = («from» ≤ done) × (done ≤ n) × ByWords out₀ to (part s (at + «from») (done - «from»)) out k

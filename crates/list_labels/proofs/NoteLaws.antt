@@ -4,10 +4,13 @@ use mathlib.Core.Bool.{Bool, true, false}
 use mathlib.Core.List.{List, [], _∷_, _++_}
 use Prim.Native.Nat.{ℕ, suc, _+_, _≤_, _<_}
 use native.Mathlib.Omega.{arith}
+use native.Mathlib.Nat.{add-zero}
 use native.Mathlib.Numerals.{add-one}
+use lib.Dec.{eqb}
 use lib.ListN.{length, getD, set}
+use lib.Seq.{set-getD}
 use borrow.Author.Tests.{lt-ltb, le-ltb, le-leb, lt-leb, eq-eqb, ne-eqb}
-use Rattle.lists.specs.Choice.{pick}
+use Rattle.lists.specs.Choice.{pick, both}
 use Rattle.lists.proofs.Tests.{by-leb, by-eqb}
 use Rattle.list_labels.specs.Notes.{Notes, withFlag, withFar, note, noteAll}
 
@@ -80,6 +83,18 @@ pub all-most : (n : Notes) (l : List ℕ) → (noteAll n l) .near + (noteAll n l
 unfolding noteAll
 all-most n [] = omega arith
 all-most n (x ∷ l) = omega (arith, all-most (note n x) l, note-most n x)
+
+-- a near offset flagged by the same steps whatever the mark is
+pub marked-near : (n : Notes) (x mark : ℕ) → x < length (n .flags)
+    → let new = both (eqb mark 1) (eqb (getD (n .flags) x 0) 0) in
+    record { flags = set (n .flags) x (pick new 1 (getD (n .flags) x 0)); near = n .near + pick new 1 0; stored = n .stored; far = n .far; low = n .low; high = n .high }
+    ≡ noteAll n (pick (eqb mark 1) (x ∷ []) [])
+marked-near n x mark h =
+    by-eqb mark 1
+    (λ e. by-eqb (getD (n .flags) x 0) 0
+    (λ q. rw (eq-eqb mark 1 e, eq-eqb (getD (n .flags) x 0) 0 q) (was-new (n .flags) (n .stored) (n .near) (n .far) (n .low) (n .high) x h q ∙ sym (all-one n x)))
+    (λ q. rw (eq-eqb mark 1 e, ne-eqb (getD (n .flags) x 0) 0 q, set-getD (n .flags) x 0, add-zero (n .near)) (sym (all-one n x ∙ note-seen n x h q))))
+    (λ e. rw (ne-eqb mark 1 e, set-getD (n .flags) x 0, add-zero (n .near)) (sym (all-none n)))
 
 -- one offset by a test
 pub one-noted : (n n′ : Notes) (p : Bool) (x : ℕ) → p ≡ true → n′ ≡ note n x → n′ ≡ noteAll n (pick p (x ∷ []) [])

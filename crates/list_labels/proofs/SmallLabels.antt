@@ -29,9 +29,9 @@ use Rattle.list_labels.proofs.InstructionLaws.{labels-record}
 abbrev Small : List ℕ → Type 0
 Small l = Between 0 2147483648 l
 
-where-picked : (p : Bool) {l : List ℕ} → Small l → Small (pick p l [])
-where-picked true h = h
-where-picked false h = none
+where-picked : (p : Bool) {k l : List ℕ} → Small k → Small l → Small (pick p k l)
+where-picked true h g = h
+where-picked false h g = g
 
 targets-small : (at : ℕ) (codes pairs : List ℕ) → Small (targets at codes pairs)
 unfolding targets
@@ -48,8 +48,8 @@ targets-small at (code ∷ codes) pairs = go (eqb (familyOf code) 4) (targetOf a
 instruction-small : (row codes s : List ℕ) (at : ℕ) → at + lengthOf codes ≤ 65536 → Small (labelsIn row codes s at)
 unfolding labelsIn
 instruction-small row codes s at h =
-    between-append 0 2147483648 (where-picked (eqb (getD row 1 0) 1) (one {x = at + lengthOf codes} (omega arith) (omega arith) none))
-    (where-picked (eqb (getD row 2 0) 1) (targets-small at codes (pairs codes s (at + 1))))
+    between-append 0 2147483648 (where-picked (eqb (getD row 1 0) 1) (one {x = at + lengthOf codes} (omega arith) (omega arith) none) none)
+    (where-picked (eqb (getD row 2 0) 0) none (targets-small at codes (pairs codes s (at + 1))))
 
 module _ (o : Opcodes) (last : ℕ) (s : List ℕ) where
   all-small : {at : ℕ} {rs : List (List ℕ)} → length s ≤ 65536 → Decoding (o .types) last s at rs → Small (rowLabels o rs)

@@ -73,3 +73,24 @@ module _ (n : Notes) (s : List ℕ) (p at code bits target : ℕ) (b : bits ≡ 
 -- and where it is not
 pub other-noted : (n : Notes) (at code bits : ℕ) → (familyOf code ≡ 4 → ⊥) → n ≡ noteAll n (targetIn at code bits)
 other-noted n at code bits e = rw (target-other at code bits e) (sym (all-none n))
+
+-- the target of a short jump, where there is one: `x` was noted by its kind, or is negative
+module _ (n : Notes) (kind at bits next x : ℕ) (t : x ≡ pick (eqb kind 1) (targetOf at 9 bits) next) where
+  target-is : kind ≡ 1 → x ≡ targetOf at 9 bits
+  target-is e = rw (eq-eqb kind 1 e) at t
+
+  pub short-kept : (n′ : Notes) → x < 2147483648 → n′ ≡ noteAll n (pick (eqb kind 1) (x ∷ []) []) → n′ ≡ noteAll n (pick (eqb kind 1) (targetIn at 9 bits) [])
+  unfolding familyOf
+  short-kept n′ h q =
+      by-eqb kind 1
+      (λ e. let k : targetOf at 9 bits < 2147483648 = rw (sym (target-is e)) h in
+      rw (eq-eqb kind 1 e, target-kept at 9 bits refl k, sym (target-is e)) (rw (eq-eqb kind 1 e) at q))
+      (λ e. rw (ne-eqb kind 1 e) (rw (ne-eqb kind 1 e) at q))
+
+  pub short-negative : 2147483648 ≤ x → n ≡ noteAll n (pick (eqb kind 1) (targetIn at 9 bits) [])
+  unfolding familyOf
+  short-negative h =
+      by-eqb kind 1
+      (λ e. let k : 2147483648 ≤ targetOf at 9 bits = rw (sym (target-is e)) h in
+      rw (eq-eqb kind 1 e, target-negative at 9 bits refl k) (sym (all-none n)))
+      (λ e. rw (ne-eqb kind 1 e) (sym (all-none n)))

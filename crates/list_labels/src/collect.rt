@@ -5,7 +5,7 @@ ghost use lib.ListN.{length, replicate};
 ghost use Rattle.limits.specs.Limits.{bodyLimit};
 ghost use Rattle.spec_body.specs.Decode.{decodeBody};
 ghost use Rattle.list_labels.specs.Readable.{readable};
-ghost use Rattle.list_labels.specs.OpcodeRows.{Sized, opcodesOf, rowLabels};
+ghost use Rattle.list_labels.specs.OpcodeRows.{RowsFit, opcodesOf, rowLabels};
 ghost use Rattle.list_labels.specs.Collecting.{unnoted, walkOf, walkedCount, Noted, FarCounted, CollectedFor, Flagged};
 use crate::offset_set::Counts;
 use crate::opcode_rows::SIZE;
@@ -29,7 +29,7 @@ fn walk(
     flags: &mut [u8],
     stored: &mut [u32],
 ) -> Walked
-    requires { ⌜ (length (now s) ≤ bodyLimit) × Sized (now types) last (now rows) ⌝ }
+    requires { ⌜ (length (now s) ≤ bodyLimit) × RowsFit (now types) last (now rows) ⌝ }
     ensures { λ r. ⌜ (r ≡ walkOf (opcodesOf (now (types .entry)) (now (rows .entry))) (unnoted (now (flags .entry)) (now (stored .entry)) low high) (decodeBody (now (types .entry)) last (now (s .entry)))) × (walkedCount r ≤ length (now (s .entry))) ⌝ }
     ensures { λ _. ⌜ Noted (opcodesOf (now (types .entry)) (now (rows .entry))) (readable (now (types .entry)) last (now (s .entry))) (unnoted (now (flags .entry)) (now (stored .entry)) low high) (now (flags .exit)) (now (stored .exit)) ⌝ }
 {
@@ -79,7 +79,7 @@ fn count_far(
     low: usize,
     high: usize,
 ) -> usize
-    requires { ⌜ (length (now s) ≤ bodyLimit) × Sized (now types) last (now rows) × (low ≤ high) × (high ≤ 2147483648) ⌝ }
+    requires { ⌜ (length (now s) ≤ bodyLimit) × RowsFit (now types) last (now rows) × (low ≤ high) × (high ≤ 2147483648) ⌝ }
     ensures { λ r. ⌜ (r ≤ bodyLimit) × FarCounted (opcodesOf (now (types .entry)) (now (rows .entry))) (decodeBody (now (types .entry)) last (now (s .entry))) low high r ⌝ }
 {
     let mut none: [u8; 0] = [];
@@ -120,7 +120,7 @@ pub fn collect_label_offsets(
     lent: usize,
     flags: &mut [u8],
 ) -> Collected
-    requires { ⌜ (length (now s) ≤ bodyLimit) × (length (now flags) ≤ bodyLimit) × Sized (now types) last (now rows) × (now flags ≡ replicate (length (now flags)) 0) ⌝ }
+    requires { ⌜ (length (now s) ≤ bodyLimit) × (length (now flags) ≤ bodyLimit) × RowsFit (now types) last (now rows) × (now flags ≡ replicate (length (now flags)) 0) ⌝ }
     ensures { λ r. ⌜ CollectedFor lent (opcodesOf (now (types .entry)) (now (rows .entry))) (decodeBody (now (types .entry)) last (now (s .entry))) r ⌝ }
     ensures { λ _. ⌜ Flagged (rowLabels (opcodesOf (now (types .entry)) (now (rows .entry))) (readable (now (types .entry)) last (now (s .entry)))) (now (flags .exit)) ⌝ }
 {

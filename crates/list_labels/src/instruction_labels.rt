@@ -3,22 +3,28 @@ ghost use mathlib.Core.Path.{_≡_};
 ghost use mathlib.Core.List.{[], _∷_};
 ghost use Prim.Native.Nat.{_+_, _≤_, _<_};
 ghost use lib.Dec.{eqb};
-ghost use lib.ListN.{length};
+ghost use lib.ListN.{length, getD};
 ghost use Rattle.limits.specs.Limits.{bodyLimit};
-ghost use Rattle.lists.specs.Choice.{pick};
+ghost use Rattle.lists.specs.Choice.{pick, both};
 ghost use Rattle.lists.specs.Scan.{part};
 ghost use Rattle.spec_numbers.specs.LittleEndian.{le};
-ghost use Rattle.spec_sheet.specs.Types.{widthOf};
+ghost use Rattle.spec_sheet.specs.Types.{widthOf, addr8};
 ghost use Rattle.spec_sheet.specs.Row.{lengthOf};
 ghost use Rattle.spec_body.specs.Record.{pairs};
+ghost use Rattle.spec_listing.specs.Operand.{targetOf};
 ghost use Rattle.spec_listing.specs.Labels.{targets};
 ghost use Rattle.list_labels.specs.Notes.{notesOf, noteAll};
+ghost use Rattle.list_labels.specs.OpcodeRows.{RowFits};
 ghost use Rattle.list_labels.specs.InstructionNotes.{targetIn, labelsIn};
 use crate::offset_set::Counts;
 use crate::offset_set::note;
 use crate::opcode_rows::FLOW_END;
 use crate::opcode_rows::JUMP;
+use crate::opcode_rows::SHORT_JUMP;
 use sheet::operand_types::ADDR_FAMILY;
+use sheet::operand_types::ADDR8;
+use slices::widen::byte_index;
+use slices::widen::wide_byte;
 
 // Notes the target of an operand at p of the jump at `at`, where it is an Addr's and not negative.
 fn note_target(
@@ -71,19 +77,76 @@ fn note_targets(
     c
 }
 
-// Notes the offset behind an instruction that ends the flow.
-fn note_behind(
-    flow_end: u8,
+// Whether an offset with this flag is to be flagged now.
+fn is_new(mark: u8, flag: u8) -> bool
+    ensures { λ r. ⌜ r ≡ both (eqb mark 1) (eqb flag 0) ⌝ }
+{
+    if mark == 1 { flag == 0 } else { false }
+}
+
+// The flag afterwards.
+fn flag_after(new: bool, flag: u8) -> u8
+    ensures { λ r. ⌜ r ≡ pick new 1 flag ⌝ }
+{
+    if new { 1 } else { flag }
+}
+
+fn one_if(new: bool) -> usize
+    ensures { λ r. ⌜ (r ≡ pick new 1 0) × (r ≤ 1) ⌝ }
+{
+    if new { 1 } else { 0 }
+}
+
+// Notes an offset where the mark is 1. A near one is flagged by the same steps whatever the mark is, since which instructions end the
+// flow or jump cannot be foreseen, and a branch costs more.
+fn note_where(mark: u8, flags: &mut [u8], stored: &mut [u32], counts: Counts, x: u32) -> Counts
+    requires { ⌜ counts .near + counts .far < 18446744073709551615 ⌝ }
+    ensures { λ r. ⌜ notesOf (now (flags .exit)) (now (stored .exit)) r ≡ noteAll (notesOf (now (flags .entry)) (now (stored .entry)) counts) (pick (eqb mark 1) (x ∷ []) []) ⌝ }
+{
+    let at = x as usize;
+    if at < flags.len() {
+        let flag = flags[at];
+        let new = is_new(mark, flag);
+        flags[at] = flag_after(new, flag);
+        return Counts {
+            near: counts.near + one_if(new),
+            far: counts.far,
+            low: counts.low,
+            high: counts.high,
+        };
+    }
+    if mark == 1 {
+        return note(flags, stored, counts, x);
+    }
+    counts
+}
+
+// The target of the Addr8 behind the opcode of the short jump at `at`; what is no jump gives the offset behind it.
+fn short_target(kind: u8, s: &[u8], at: usize, next: u32) -> u32
+    requires { ⌜ (kind ≤ 1) × (at + kind < length (now s)) × (at ≤ bodyLimit) ⌝ }
+    ensures { λ r. ⌜ r ≡ pick (eqb kind 1) (targetOf at addr8 (getD (now (s .entry)) (at + 1) 0)) next ⌝ }
+{
+    let distance = s[at + byte_index(kind)];
+    let target = crate::target::target_of(at, ADDR8, wide_byte(distance));
+    if kind == SHORT_JUMP { target } else { next }
+}
+
+// Notes the target of a short jump, where it is not negative; nothing of what is no jump.
+fn note_short(
+    kind: u8,
     flags: &mut [u8],
     stored: &mut [u32],
     counts: Counts,
+    s: &[u8],
+    at: usize,
     next: u32,
 ) -> Counts
-    requires { ⌜ counts .near + counts .far < 18446744073709551615 ⌝ }
-    ensures { λ r. ⌜ notesOf (now (flags .exit)) (now (stored .exit)) r ≡ noteAll (notesOf (now (flags .entry)) (now (stored .entry)) counts) (pick (eqb «flow_end» 1) (next ∷ []) []) ⌝ }
+    requires { ⌜ (kind ≤ 1) × (at + kind < length (now s)) × (at ≤ bodyLimit) × (counts .near + counts .far < 18446744073709551615) ⌝ }
+    ensures { λ r. ⌜ notesOf (now (flags .exit)) (now (stored .exit)) r ≡ noteAll (notesOf (now (flags .entry)) (now (stored .entry)) counts) (pick (eqb kind 1) (targetIn at addr8 (getD (now (s .entry)) (at + 1) 0)) []) ⌝ }
 {
-    if flow_end == 1 {
-        return note(flags, stored, counts, next);
+    let x = short_target(kind, s, at, next);
+    if x < 0x8000_0000 {
+        return note_where(kind, flags, stored, counts, x);
     }
     counts
 }
@@ -99,14 +162,15 @@ pub(crate) fn note_instruction(
     stored: &mut [u32],
     counts: Counts,
 ) -> Counts
-    requires { ⌜ (size ≡ lengthOf codes) × (at + size ≤ length (now s)) × (length (now s) ≤ bodyLimit) × (counts .near + counts .far ≤ at) ⌝ }
+    requires { ⌜ (size ≡ lengthOf codes) × (at + size ≤ length (now s)) × (length (now s) ≤ bodyLimit) × (counts .near + counts .far ≤ at) × RowFits codes row ⌝ }
     ensures { λ r. ⌜ notesOf (now (flags .exit)) (now (stored .exit)) r ≡ noteAll (notesOf (now (flags .entry)) (now (stored .entry)) counts) (labelsIn row codes (now (s .entry)) at) ⌝ }
     ensures { λ r. ⌜ r .near + r .far ≤ at + size ⌝ }
 {
     let next = (at + size) as u32;
-    let c = note_behind(row[FLOW_END], flags, stored, counts, next);
-    if row[JUMP] == 1 {
+    let c = note_where(row[FLOW_END], flags, stored, counts, next);
+    let kind = row[JUMP];
+    if SHORT_JUMP < kind {
         return note_targets(flags, stored, c, codes, s, at);
     }
-    c
+    note_short(kind, flags, stored, c, s, at, next)
 }

@@ -8,7 +8,7 @@ ghost use Rattle.spec_listing.specs.Labels.{labelOffsets};
 ghost use Rattle.spec_listing.specs.Listing.{labelLine, longLine, listedText};
 ghost use Rattle.listing.specs.Parts.{Decodes, Flagged, recordsOf, Lined, RoomMade, flaggedText, optionsOf};
 ghost use Rattle.spec_inputs.specs.Context.{contextFrom};
-ghost use Rattle.list_labels.specs.OpcodeRows.{Sized};
+ghost use Rattle.list_labels.specs.OpcodeRows.{RowsFit};
 use crate::options::Options;
 use list_labels::opcode_rows::SIZE;
 use numbers::print_words::put_decimal;
@@ -94,7 +94,7 @@ pub(crate) fn list_lines(
     out: &mut [u8],
     from: usize,
 ) -> Lines
-    requires { ⌜ Decodes (now types) last (now s) × Sized (now types) last (now rows) ⌝ }
+    requires { ⌜ Decodes (now types) last (now s) × RowsFit (now types) last (now rows) ⌝ }
     requires { ⌜ Flagged (now flags) (labelOffsets (contextFrom (now sheet) (now types) (now ops) (now bytes) (now ends)) (recordsOf (decodeBody (now types) last (now s)))) ⌝ }
     requires { ⌜ (length (now s) ≤ length (now flags)) × (length (now s) ≤ bodyLimit) × (length (now indent) ≤ 2) ⌝ }
     ensures { λ r. ⌜ Lined

@@ -59,7 +59,7 @@ same-length-4 c = c .before .before .before .before .before .before .loop .inv .
 returns-2 : tie.Need-returns-2 Inv-loop μ-loop
 returns-2 c =
     let l = c .before .before .before .before .before .before .loop in
-    let z = c .before .byte-index .ensures ∙ c .before .before .before .before .before .before .before .before .before .before .pre .1 _ (c .before .before .before .before .shared-slice-known2 .given (l .at) .fits) (c .before .before .before .if1 .left) in
+    let z = c .before .byte-index .ensures ∙ (c .before .before .before .before .before .before .before .before .before .before .pre .1 _ (c .before .before .before .before .shared-slice-known2 .given (l .at) .fits) (c .before .before .before .if1 .left)) .size in
     let r = broken _ _ _ _ _ _ (l .inv) (c .before .before .before .before .before .loop-test .taken) (c .before .before .before .if1 .left) _ z (c .if2 .taken) in
     (r .answered, r .left-noted)
 
@@ -72,8 +72,8 @@ element-copy-out-codes c = c .before .before .before .before .shared-slice-known
 note-instruction-requires : tie.Need-note-instruction-requires Inv-loop μ-loop
 note-instruction-requires c κs =
     let l = c .before .before .before .before .before .before .before .before .before .loop in
-    let z = c .before .before .before .before .byte-index .ensures ∙ c .before .before .before .before .before .before .before .before .before .before .before .before .before .pre .1 _ (c .before .before .before .before .before .before .before .shared-slice-known2 .given (l .at) .fits) (c .before .before .before .before .before .before .if1 .left) in
-    (z, search needs, search needs, search needs)
+    let f = (c .before .before .before .before .before .before .before .before .before .before .before .before .before .pre .1 _ (c .before .before .before .before .before .before .before .shared-slice-known2 .given (l .at) .fits) (c .before .before .before .before .before .before .if1 .left)) in
+    (c .before .before .before .before .byte-index .ensures ∙ f .size, search needs, search needs, search needs, f)
 
 add-at : tie.Need-add-at Inv-loop μ-loop
 add-at c = search needs
@@ -81,14 +81,14 @@ add-at c = search needs
 loop-less : tie.Need-loop-less Inv-loop μ-loop
 loop-less c =
     let l = c .before .before .before .before .before .before .before .before .before .before .before .before .before .before .loop in
-    let z = c .before .before .before .before .before .before .before .before .before .byte-index .ensures ∙ c .before .before .before .before .before .before .before .before .before .before .before .before .before .before .before .before .before .before .pre .1 _ (c .before .before .before .before .before .before .before .before .before .before .before .before .shared-slice-known2 .given (l .at) .fits) (c .before .before .before .before .before .before .before .before .before .before .before .if1 .left) in
+    let z = c .before .before .before .before .before .before .before .before .before .byte-index .ensures ∙ (c .before .before .before .before .before .before .before .before .before .before .before .before .before .before .before .before .before .before .pre .1 _ (c .before .before .before .before .before .before .before .before .before .before .before .before .shared-slice-known2 .given (l .at) .fits) (c .before .before .before .before .before .before .before .before .before .before .before .if1 .left)) .size in
     omega (arith, z, c .before .before .before .before .before .before .before .before .before .before .before .before .before .loop-test .taken, c .before .before .before .before .before .before .before .before .if2 .left)
 
 loop-again : tie.Need-loop-again Inv-loop μ-loop
 loop-again c =
     let l = c .before .before .before .before .before .before .before .before .before .before .before .before .before .before .loop in
     let w = c .before .before .before .before .note-instruction in
-    let z = c .before .before .before .before .before .before .before .before .before .byte-index .ensures ∙ c .before .before .before .before .before .before .before .before .before .before .before .before .before .before .before .before .before .before .pre .1 _ (c .before .before .before .before .before .before .before .before .before .before .before .before .shared-slice-known2 .given (l .at) .fits) (c .before .before .before .before .before .before .before .before .before .before .before .if1 .left) in
+    let z = c .before .before .before .before .before .before .before .before .before .byte-index .ensures ∙ (c .before .before .before .before .before .before .before .before .before .before .before .before .before .before .before .before .before .before .pre .1 _ (c .before .before .before .before .before .before .before .before .before .before .before .before .shared-slice-known2 .given (l .at) .fits) (c .before .before .before .before .before .before .before .before .before .before .before .if1 .left)) .size in
     turn _ _ _ _ _ _ (l .inv) (c .before .before .before .before .before .before .before .before .before .before .before .before .before .loop-test .taken) (c .before .before .before .before .before .before .before .before .before .before .before .if1 .left) _ z _ (c .before .before .before .before .before .before .before .before .if2 .left) (w .kept .1 .1 .1 .1 .1 .0) (w .kept .1 .1 .1 .1 .1 .1 .0) (w .ensures .0) (w .ensures .1)
 
 same-length-5 : tie.Need-same-length-5 Inv-loop μ-loop

@@ -1,6 +1,6 @@
-use Rattle.list_labels.specs.Notes.{notesOf}
-use Rattle.list_labels.proofs.InstructionLaws.{behind-few, plain-few, jump-noted, plain-noted}
 use native.Mathlib.Omega.{arith}
+use Rattle.list_labels.specs.Notes.{notesOf}
+use Rattle.list_labels.proofs.InstructionLaws.{behind-few, jump-noted, short-inside, short-noted, short-few}
 use borrow.Author.Needs.{needs}
 use Rattle.list_labels.proofs.instruction_labels.note_instruction.Statement.{statement}
 use Rattle.list_labels.proofs.instruction_labels.note_instruction.Tie as tie
@@ -11,21 +11,21 @@ add-next c = search needs
 cast-next : tie.Need-cast-next
 cast-next c = search needs
 
-array-read-note-behind : tie.Need-array-read-note-behind
-array-read-note-behind c = search needs
+array-read-note-where : tie.Need-array-read-note-where
+array-read-note-where c = search needs
 
-note-behind-requires : tie.Need-note-behind-requires
-note-behind-requires c κs = search needs
+note-where-requires : tie.Need-note-where-requires
+note-where-requires c κs = search needs
 
-array-read-if1 : tie.Need-array-read-if1
-array-read-if1 c = search needs
+array-read-kind : tie.Need-array-read-kind
+array-read-kind c = search needs
 
 note-targets-requires : tie.Need-note-targets-requires
 note-targets-requires c κs =
     let a = c .before .before .before .before .before .before .before .before .before .before .before .before .before in
     let x = a .args in
     let n = notesOf (x .flags .now) (x .stored .now) (x .counts) in
-    let b = c .before .before .before .before .before .before .before .note-behind in
+    let b = c .before .before .before .before .before .before .before .note-where in
     (search needs, search needs, behind-few (x .t1) (x .codes) (x .s .now) (x .at) (x .size) n _ (a .pre .0) (b .ensures) (a .pre .3))
 
 same-length : tie.Need-same-length
@@ -39,9 +39,17 @@ returns c =
     let a = c .before .before .before .before .before .before .before .before .before .before .before .before .before .before .before .before .before .before in
     let x = a .args in
     let n = notesOf (x .flags .now) (x .stored .now) (x .counts) in
-    let b = c .before .before .before .before .before .before .before .before .before .before .before .before .note-behind in
+    let b = c .before .before .before .before .before .before .before .before .before .before .before .before .note-where in
     let t = c .before .before .before .before .note-targets in
     (jump-noted (x .t1) (x .codes) (x .s .now) (x .at) (x .size) n _ (a .pre .0) (b .ensures) (a .pre .3) _ (c .before .before .before .before .before .before .before .if1 .taken) (t .ensures .0), omega (arith, a .pre .0, t .ensures .1))
+
+note-short-requires : tie.Need-note-short-requires
+note-short-requires c κs =
+    let a = c .before .before .before .before .before .before .before .before .before .before .before .before .before in
+    let x = a .args in
+    let n = notesOf (x .flags .now) (x .stored .now) (x .counts) in
+    let b = c .before .before .before .before .before .before .before .note-where in
+    (omega arith, short-inside (x .t1) (x .codes) (x .s .now) (x .at) (x .size) n _ (a .pre .0) (b .ensures) (a .pre .3) (a .pre .4) (a .pre .1) (c .before .before .if1 .left), search needs, omega (arith, behind-few (x .t1) (x .codes) (x .s .now) (x .at) (x .size) n _ (a .pre .0) (b .ensures) (a .pre .3)))
 
 same-length-3 : tie.Need-same-length-3
 same-length-3 c = search needs
@@ -51,12 +59,13 @@ same-length-4 c = search needs
 
 returns-2 : tie.Need-returns-2
 returns-2 c =
-    let a = c .before .before .before .before .before .before .before .before .before .before .before in
+    let a = c .before .before .before .before .before .before .before .before .before .before .before .before .before .before .before .before .before .before in
     let x = a .args in
     let n = notesOf (x .flags .now) (x .stored .now) (x .counts) in
-    let b = c .before .before .before .before .before .note-behind in
-    let f = plain-few (x .t1) (x .codes) (x .s .now) (x .at) (x .size) n _ (a .pre .0) (b .ensures) (a .pre .3) in
-    (plain-noted (x .t1) (x .codes) (x .s .now) (x .at) (x .size) n _ (a .pre .0) (b .ensures) (a .pre .3) (c .if1 .left), f)
+    let b = c .before .before .before .before .before .before .before .before .before .before .before .before .note-where in
+    let t = c .before .before .before .before .note-short in
+    let j = c .before .before .before .before .before .before .before .if1 .left in
+    (short-noted (x .t1) (x .codes) (x .s .now) (x .at) (x .size) n _ (a .pre .0) (b .ensures) (a .pre .3) (a .pre .4) (a .pre .1) j _ (t .ensures), short-few (x .t1) (x .codes) (x .s .now) (x .at) (x .size) n _ (a .pre .0) (b .ensures) (a .pre .3) (a .pre .4) (a .pre .1) j _ (t .ensures))
 
 pub note-instruction-spec : {M : Type 1} → statement M
 note-instruction-spec =
@@ -64,13 +73,14 @@ note-instruction-spec =
     (tie.spec
     add-next
     cast-next
-    array-read-note-behind
-    note-behind-requires
-    array-read-if1
+    array-read-note-where
+    note-where-requires
+    array-read-kind
     note-targets-requires
     same-length
     same-length-2
     returns
+    note-short-requires
     same-length-3
     same-length-4
     returns-2)

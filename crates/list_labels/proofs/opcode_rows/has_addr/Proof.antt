@@ -9,10 +9,10 @@ use Rattle.list_labels.proofs.opcode_rows.has_addr.Statement.{statement
 use Rattle.list_labels.proofs.opcode_rows.has_addr.Tie as tie
 
 abbrev Inv-loop : tie.InvT-loop
-Inv-loop codes i₀ i = (i ≤ 8) × (hasAddr codes ≡ hasAddr (drop i codes))
+Inv-loop «from» codes i₀ i = (i ≤ 8) × (hasAddr (drop «from» codes) ≡ hasAddr (drop i codes))
 
 abbrev μ-loop : tie.MeasureT-loop
-μ-loop codes i₀ i = 8 - i
+μ-loop «from» codes i₀ i = 8 - i
 
 loop-holds : tie.Need-loop-holds Inv-loop μ-loop
 loop-holds c = (search needs, refl)

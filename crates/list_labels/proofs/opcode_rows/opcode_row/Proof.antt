@@ -17,20 +17,17 @@ array-read-ends-flow-2 c = search needs
 ends-flow-requires : tie.Need-ends-flow-requires
 ends-flow-requires c κs = search needs
 
-array-read-is-jump : tie.Need-array-read-is-jump
-array-read-is-jump c = search needs
+array-read-jump-kind : tie.Need-array-read-jump-kind
+array-read-jump-kind c = search needs
 
-is-jump-requires : tie.Need-is-jump-requires
-is-jump-requires c κs = search needs
+jump-kind-requires : tie.Need-jump-kind-requires
+jump-kind-requires c κs = search needs
 
 one-if-requires : tie.Need-one-if-requires
 one-if-requires c κs = search needs
 
-one-if-requires-2 : tie.Need-one-if-requires-2
-one-if-requires-2 c κs = search needs
-
 returns : tie.Need-returns
-returns c = rw (c .one-if2 .ensures, c .before .one-if .ensures, c .before .before .is-jump .ensures, c .before .before .before .ends-flow .ensures, c .before .before .before .before .instruction-length .ensures .0)
+returns c = rw (c .one-if .ensures, c .before .jump-kind .ensures, c .before .before .ends-flow .ensures, c .before .before .before .instruction-length .ensures .0)
 
 pub opcode-row-spec : {M : Type 1} → statement M
 opcode-row-spec =
@@ -41,8 +38,7 @@ opcode-row-spec =
     array-read-ends-flow
     array-read-ends-flow-2
     ends-flow-requires
-    array-read-is-jump
-    is-jump-requires
+    array-read-jump-kind
+    jump-kind-requires
     one-if-requires
-    one-if-requires-2
     returns)

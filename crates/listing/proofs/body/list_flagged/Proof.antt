@@ -1,7 +1,7 @@
 use lib.ListN.{getD}
 use Prim.Native.Nat.{ℕ, _<_}
 use Rattle.spec_inputs.specs.Context.{contextFrom}
-use Rattle.list_labels.proofs.OpcodeRowLaws.{rows-sized}
+use Rattle.list_labels.proofs.OpcodeRowLaws.{rows-fit}
 use Rattle.listing.proofs.BodyLaws.{was-entries, was-refused, flags-say, decodes, all-listed, one-long, not-decoded}
 use native.Mathlib.Omega.{arith}
 use borrow.Author.Needs.{needs}
@@ -16,7 +16,7 @@ collect-label-offsets-requires c κs =
     let a = c .before .before .before .before .before .before .before .before .before in
     let x = a .args in
     let q = a .pre .1 .1 in
-    (omega (arith, q .0, q .1), q .1, rows-sized (x .sheet .now) (x .types .now) (x .ops .now) (x .last) (x .rows .now) (a .pre .1 .0), a .pre .0)
+    (omega (arith, q .0, q .1), q .1, rows-fit (x .sheet .now) (x .types .now) (x .ops .now) (x .last) (x .rows .now) (a .pre .1 .0), a .pre .0)
 
 enum-known-c : tie.Need-enum-known-c
 enum-known-c c = search needs
@@ -32,7 +32,7 @@ list-lines-requires c κs =
     let r = a .pre .1 .0 in
     let n = was-entries e (x .last) (x .rows .now) (x .s .now) t (w .ensures .0) _ r b (c .before .before .before .c .given .1) in
     let q = a .pre .1 .1 in
-    ((decodes _ _ _ e t _ n, rows-sized (x .sheet .now) (x .types .now) (x .ops .now) (x .last) (x .rows .now) r), (flags-say e (x .last) (x .rows .now) (x .s .now) (w .last .1 .1 .1 .1 .1 .0) t _ r b n (w .ensures .1), (omega (arith, w .kept .1 .1 .1 .1 .1 .0, q .0), omega (arith, q .0, q .1), q .2)))
+    ((decodes _ _ _ e t _ n, rows-fit (x .sheet .now) (x .types .now) (x .ops .now) (x .last) (x .rows .now) r), (flags-say e (x .last) (x .rows .now) (x .s .now) (w .last .1 .1 .1 .1 .1 .0) t _ r b n (w .ensures .1), (omega (arith, w .kept .1 .1 .1 .1 .1 .0, q .0), omega (arith, q .0, q .1), q .2)))
 
 enum-known-l : tie.Need-enum-known-l
 enum-known-l c = search needs

@@ -87,14 +87,14 @@ add-at c =
     let l = c .before .before .before .before .before .before .before .before .before .before .before .before .before .before .before .before .before .before .before .before .before .before .loop in
     let h = c .before .before .before .before .before .before .before .before .before .before .before .before .before .before .before .before .before .before .before .before .before .loop-test .taken in
     let q = c .before .before .before .before .before .before .before .before .before .before .before .before .before .before .before .before .before .before .before .before .before .before .before .before .before .before .before .before .before .before .pre in
-    let z = c .before .before .before .before .before .before .before .before .before .before .before .before .before .byte-index .ensures ∙ q .0 .1 _ (c .before .before .before .before .before .before .before .before .before .before .before .before .before .before .before .shared-slice-known7 .given (l .at) .fits) (known (l .inv) h) in
+    let z = c .before .before .before .before .before .before .before .before .before .before .before .before .before .byte-index .ensures ∙ (q .0 .1 _ (c .before .before .before .before .before .before .before .before .before .before .before .before .before .before .before .shared-slice-known7 .given (l .at) .fits) (known (l .inv) h)) .size in
     record { fits = fits-next _ _ _ (rw z (inside (l .inv) h)) (q .1 .1 .1) }
 
 loop-less : tie.Need-loop-less Inv-loop μ-loop
 loop-less c =
     let l = c .before .before .before .before .before .before .before .before .before .before .before .before .before .before .before .before .before .before .before .before .before .before .loop in
     let h = c .before .before .before .before .before .before .before .before .before .before .before .before .before .before .before .before .before .before .before .before .before .loop-test .taken in
-    let z = c .before .before .before .before .before .before .before .before .before .before .before .before .before .byte-index .ensures ∙ c .before .before .before .before .before .before .before .before .before .before .before .before .before .before .before .before .before .before .before .before .before .before .before .before .before .before .before .before .before .before .pre .0 .1 _ (c .before .before .before .before .before .before .before .before .before .before .before .before .before .before .before .shared-slice-known7 .given (l .at) .fits) (known (l .inv) h) in
+    let z = c .before .before .before .before .before .before .before .before .before .before .before .before .before .byte-index .ensures ∙ (c .before .before .before .before .before .before .before .before .before .before .before .before .before .before .before .before .before .before .before .before .before .before .before .before .before .before .before .before .before .before .pre .0 .1 _ (c .before .before .before .before .before .before .before .before .before .before .before .before .before .before .before .shared-slice-known7 .given (l .at) .fits) (known (l .inv) h)) .size in
     less-next _ _ _ h (rw z (omega arith))
 
 loop-again : tie.Need-loop-again Inv-loop μ-loop
@@ -102,7 +102,7 @@ loop-again c =
     let l = c .before .before .before .before .before .before .before .before .before .before .before .before .before .before .before .before .before .before .before .before .before .before .loop in
     let h = c .before .before .before .before .before .before .before .before .before .before .before .before .before .before .before .before .before .before .before .before .before .loop-test .taken in
     let q = c .before .before .before .before .before .before .before .before .before .before .before .before .before .before .before .before .before .before .before .before .before .before .before .before .before .before .before .before .before .before .pre in
-    let z = c .before .before .before .before .before .before .before .before .before .before .before .before .before .byte-index .ensures ∙ q .0 .1 _ (c .before .before .before .before .before .before .before .before .before .before .before .before .before .before .before .shared-slice-known7 .given (l .at) .fits) (known (l .inv) h) in
+    let z = c .before .before .before .before .before .before .before .before .before .before .before .before .before .byte-index .ensures ∙ (q .0 .1 _ (c .before .before .before .before .before .before .before .before .before .before .before .before .before .before .before .shared-slice-known7 .given (l .at) .fits) (known (l .inv) h)) .size in
     let room = roomy (l .inv) (c .before .before .before .before .before .before .before .before .before .before .before .before .before .before .before .before .before .before .make-room .ensures) in
     turn (room .1) (given _ (q .1 .0) (q .1 .1)) (room .0) (record { b₁ = _; label-put = c .before .before .before .before .before .before .before .before .before .before .before .put-flagged-label .ensures; b₂ = _; b = _; indent-put = c .before .before .before .before .before .before .before .before .put-bytes .ensures; text-put = c .before .before .before .before .before .put-instruction .ensures }) h (c .before .before .before .if1 .left) (c .before .put-byte .ensures) z
 

@@ -30,6 +30,18 @@ bytes-each [] h (suc i) = omega arith
 bytes-each (b ∷ s) (h, t) zero = h
 bytes-each (b ∷ s) (h, t) (suc i) = bytes-each s t i
 
+-- four digits by the pairs of the hundreds and of what is left
+module _ (n : ℕ) where
+  two-pairs : le ((48 + n / 100 / 10) ∷ (48 + n / 100 % 10) ∷ []) + le ((48 + n % 100 / 10) ∷ (48 + n % 100 % 10) ∷ []) * 65536 ≡ le (fourDigits n)
+  unfolding le
+  two-pairs = omega arith
+
+  pub four-of-pairs : (h x y : ℕ) → h ≡ n / 100 → x ≡ le ((48 + h / 10) ∷ (48 + h % 10) ∷ []) → y ≡ le ((48 + (n - h * 100) / 10) ∷ (48 + (n - h * 100) % 10) ∷ [])
+      → x + y * 65536 ≡ le (fourDigits n)
+  four-of-pairs h x y e a b =
+      let f : n - h * 100 ≡ n % 100 = omega arith in
+      rw (a, b, f, e) two-pairs
+
 -- what is left of some bytes when those in front are shifted out
 left-bytes : (a b : List ℕ) → Bytes a → Bytes b → leBytes (length b) (le (a ++ b) / 256 ^ length a) ≡ b
 left-bytes a b g h = ap (leBytes (length b)) (le-shift a b g) ∙ leBytes-le b h

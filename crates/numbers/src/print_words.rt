@@ -31,12 +31,29 @@ fn digit_count(n: u64) -> usize
     1 + one_if(9 < n) + one_if(99 < n) + one_if(999 < n)
 }
 
+// The tens of a number below 100, and the hundreds of one below 10000: a product and a shift, where a division of a u64 takes twice the
+// steps.
+fn tens(n: u64) -> u64
+    requires { ⌜ n < 100 ⌝ }
+    ensures { λ r. ⌜ r ≡ n / 10 ⌝ }
+{
+    n * 103 / 1024
+}
+
+fn hundreds(n: u64) -> u64
+    requires { ⌜ n < 10000 ⌝ }
+    ensures { λ r. ⌜ r ≡ n / 100 ⌝ }
+{
+    n * 5243 / 524288
+}
+
 // The two digits of a number below 100 as bytes of a word, the first the lowest.
 fn pair_word(n: u64) -> u64
     requires { ⌜ n < 100 ⌝ }
     ensures { λ r. ⌜ (r ≡ le ((48 + n / 10) ∷ (48 + n % 10) ∷ [])) × (r < 65536) ⌝ }
 {
-    48 + n / 10 + (48 + n % 10) * 256
+    // The ones are n less ten times the tens: in the upper byte 10 * 256 off for each ten, and 1 in the lower.
+    0x3030 + n * 256 - tens(n) * 2559
 }
 
 // Four digits, with zeros in front.
@@ -44,7 +61,8 @@ fn four_word(n: u64) -> u64
     requires { ⌜ n < 10000 ⌝ }
     ensures { λ r. ⌜ (r ≡ le (fourDigits n)) × (r < 4294967296) ⌝ }
 {
-    pair_word(n / 100) + pair_word(n % 100) * 65536
+    let h = hundreds(n);
+    pair_word(h) + pair_word(n - h * 100) * 65536
 }
 
 // A number of at most four digits: the zeros in front are shifted out.

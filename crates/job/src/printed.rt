@@ -46,7 +46,7 @@ fn put_hex_bytes(out: &mut [u8], at: usize, s: &[u8]) -> usize
     let mut k = at;
     let mut i: usize = 0;
     while i < s.len() {
-        k = numbers::print_hex::put_hex(out, k, s[i] as u64, 65, 2);
+        k = numbers::print_hex::put_hex_byte(out, k, s[i]);
         i += 1;
     }
     k

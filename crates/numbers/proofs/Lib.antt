@@ -3,6 +3,7 @@ pub mod WordLaws
 pub mod WidthLaws
 pub mod AnswerLaws
 pub mod RoomLaws
+pub mod DigitTurns
 pub mod DecimalTurns
 pub mod HexTurns
 pub mod WordDigits

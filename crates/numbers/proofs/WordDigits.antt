@@ -144,5 +144,5 @@ unfolding hexLower4 hexLower
 offset-digits n h =
     leBytes-le (fourHexDigits 97 n ++ (32 ∷ 32 ∷ []))
     (bytes-each (fourHexDigits 97 n ++ (32 ∷ 32 ∷ []))
-    (digit-byte (n / 4096) (omega arith), (digit-byte (n / 256 % 16) (omega arith), (digit-byte (n / 16 % 16) (omega arith), (digit-byte (n % 16) (omega arith), (omega arith, (omega arith, omega arith)))))))
+    (digit-byte (n / 256 / 16) (omega arith), (digit-byte (n / 256 % 16) (omega arith), (digit-byte (n % 256 / 16) (omega arith), (digit-byte (n % 256 % 16) (omega arith), (omega arith, (omega arith, omega arith)))))))
     ∙ ap (λ (l : List ℕ). l ++ (32 ∷ 32 ∷ [])) (sym (hex-four 97 n h))

@@ -1,16 +1,16 @@
 // Decimal numbers as text, through the counting writer.
-ghost use mathlib.Core.List.{[], _∷_, _++_};
+ghost use mathlib.Core.List.{_∷_};
 ghost use Prim.Native.Nat.{_+_, _<_, _/_, _%_};
 ghost use Rattle.lists.specs.Write.{Put};
 ghost use Rattle.spec_numbers.specs.Print.{decimal};
-ghost use Rattle.numbers.specs.Digits.{fourDigits};
+ghost use Rattle.numbers.specs.Digits.{twoDigits, fourDigits, eightDigits};
 use slices::write::put_byte;
 use slices::write::put_bytes;
 
 // The two digits of a number below 100.
 fn put_pair(out: &mut [u8], at: usize, n: u64) -> usize
     requires { ⌜ n < 100 ⌝ }
-    ensures { λ r. ⌜ Put (now (out .entry)) at ((48 + n / 10) ∷ (48 + n % 10) ∷ []) (now (out .exit)) r ⌝ }
+    ensures { λ r. ⌜ Put (now (out .entry)) at (twoDigits n) (now (out .exit)) r ⌝ }
 {
     let pair = [48 + (n / 10) as u8, 48 + (n % 10) as u8];
     put_bytes(out, at, &pair)
@@ -19,7 +19,7 @@ fn put_pair(out: &mut [u8], at: usize, n: u64) -> usize
 // The three digits of a number below 1000.
 fn put_three(out: &mut [u8], at: usize, n: u64) -> usize
     requires { ⌜ n < 1000 ⌝ }
-    ensures { λ r. ⌜ Put (now (out .entry)) at ((48 + n / 100) ∷ (48 + n % 100 / 10) ∷ (48 + n % 100 % 10) ∷ []) (now (out .exit)) r ⌝ }
+    ensures { λ r. ⌜ Put (now (out .entry)) at ((48 + n / 100) ∷ twoDigits (n % 100)) (now (out .exit)) r ⌝ }
 {
     let back = n % 100;
     let three = [
@@ -49,7 +49,7 @@ fn put_four(out: &mut [u8], at: usize, n: u64) -> usize
 // Eight digits, with zeros in front.
 fn put_eight(out: &mut [u8], at: usize, n: u64) -> usize
     requires { ⌜ n < 100000000 ⌝ }
-    ensures { λ r. ⌜ Put (now (out .entry)) at (fourDigits (n / 10000) ++ fourDigits (n % 10000)) (now (out .exit)) r ⌝ }
+    ensures { λ r. ⌜ Put (now (out .entry)) at (eightDigits n) (now (out .exit)) r ⌝ }
 {
     let k = put_four(out, at, n / 10000);
     put_four(out, k, n % 10000)

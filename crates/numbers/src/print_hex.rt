@@ -1,11 +1,9 @@
 // Hexadecimal numbers as text, through the counting writer.
 ghost use mathlib.Core.Path.{_≡_};
-ghost use Prim.Native.Nat.{_-_, _<_, _≤_};
-ghost use lib.Dec.{ltb, leb};
-ghost use Rattle.lists.specs.Choice.{both};
+ghost use Prim.Native.Nat.{_<_, _≤_};
 ghost use Rattle.lists.specs.Write.{Put};
 ghost use Rattle.spec_numbers.specs.Print.{digit, digits, padded, hexUpper, hexLower4, hexUpper4, hexUpper16};
-ghost use Rattle.numbers.specs.Digits.{fourHexDigits};
+ghost use Rattle.numbers.specs.Digits.{twoHexDigits, fourHexDigits, eightHexDigits};
 use slices::write::put_byte;
 use slices::write::put_bytes;
 
@@ -21,50 +19,85 @@ pub(crate) fn digit_char(d: u64, letter: u8) -> u8
     }
 }
 
-// No digit stands in front of this one.
-fn first_digit(n: u64, least: usize) -> bool
-    ensures { λ r. ⌜ r ≡ both (ltb n 16) (leb least 1) ⌝ }
+// The two digits of a number below 256.
+fn put_pair(out: &mut [u8], at: usize, n: u64, letter: u8) -> usize
+    requires { ⌜ (n < 256) × (letter ≤ 97) ⌝ }
+    ensures { λ r. ⌜ Put (now (out .entry)) at (twoHexDigits letter n) (now (out .exit)) r ⌝ }
 {
-    if n < 16 {
-        return least <= 1;
-    }
-    false
+    let pair = [digit_char(n / 16, letter), digit_char(n % 16, letter)];
+    put_bytes(out, at, &pair)
 }
 
-// How many characters at least go in front of the last.
-fn one_less(least: usize) -> usize
-    ensures { λ r. ⌜ r ≡ least - 1 ⌝ }
-{
-    if least == 0 {
-        return 0;
-    }
-    least - 1
-}
-
-// Writes n in hexadecimal with letters from `letter` on ('a' is 97, 'A' is 65) and at least `least` digits. The front is
-// written first, so nothing has to be turned round.
-pub fn put_hex(out: &mut [u8], at: usize, n: u64, letter: u8, least: usize) -> usize
-    requires { ⌜ letter ≤ 97 ⌝ }
-    ensures { λ r. ⌜ Put (now (out .entry)) at (padded least (digits 16 letter 16 n)) (now (out .exit)) r ⌝ }
-{
-    if first_digit(n, least) {
-        return put_byte(out, at, digit_char(n, letter));
-    }
-    let k = put_hex(out, at, n / 16, letter, one_less(least));
-    put_byte(out, k, digit_char(n % 16, letter))
-}
-
-// The four digits of a number below 65536, written at once.
+// Four digits, with zeros in front.
 fn put_four(out: &mut [u8], at: usize, n: u64, letter: u8) -> usize
     requires { ⌜ (n < 65536) × (letter ≤ 97) ⌝ }
     ensures { λ r. ⌜ Put (now (out .entry)) at (fourHexDigits letter n) (now (out .exit)) r ⌝ }
 {
-    let a = digit_char(n / 4096, letter);
-    let b = digit_char(n / 256 % 16, letter);
-    let c = digit_char(n / 16 % 16, letter);
-    let d = digit_char(n % 16, letter);
-    let four = [a, b, c, d];
+    let front = n / 256;
+    let back = n % 256;
+    let four = [
+        digit_char(front / 16, letter),
+        digit_char(front % 16, letter),
+        digit_char(back / 16, letter),
+        digit_char(back % 16, letter),
+    ];
     put_bytes(out, at, &four)
+}
+
+// Eight digits, with zeros in front.
+fn put_eight(out: &mut [u8], at: usize, n: u64, letter: u8) -> usize
+    requires { ⌜ (n < 4294967296) × (letter ≤ 97) ⌝ }
+    ensures { λ r. ⌜ Put (now (out .entry)) at (eightHexDigits letter n) (now (out .exit)) r ⌝ }
+{
+    let k = put_four(out, at, n / 65536, letter);
+    put_four(out, k, n % 65536, letter)
+}
+
+// A number of at most two digits.
+fn put_few(out: &mut [u8], at: usize, n: u64, letter: u8) -> usize
+    requires { ⌜ (n < 256) × (letter ≤ 97) ⌝ }
+    ensures { λ r. ⌜ Put (now (out .entry)) at (digits 16 letter 16 n) (now (out .exit)) r ⌝ }
+{
+    if n < 16 {
+        return put_byte(out, at, digit_char(n, letter));
+    }
+    put_pair(out, at, n, letter)
+}
+
+// A number of at most four digits.
+fn put_small(out: &mut [u8], at: usize, n: u64, letter: u8) -> usize
+    requires { ⌜ (n < 65536) × (letter ≤ 97) ⌝ }
+    ensures { λ r. ⌜ Put (now (out .entry)) at (digits 16 letter 16 n) (now (out .exit)) r ⌝ }
+{
+    if n < 256 {
+        return put_few(out, at, n, letter);
+    }
+    let k = put_few(out, at, n / 256, letter);
+    put_pair(out, k, n % 256, letter)
+}
+
+// A number of at most eight digits.
+fn put_middle(out: &mut [u8], at: usize, n: u64, letter: u8) -> usize
+    requires { ⌜ (n < 4294967296) × (letter ≤ 97) ⌝ }
+    ensures { λ r. ⌜ Put (now (out .entry)) at (digits 16 letter 16 n) (now (out .exit)) r ⌝ }
+{
+    if n < 65536 {
+        return put_small(out, at, n, letter);
+    }
+    let k = put_small(out, at, n / 65536, letter);
+    put_four(out, k, n % 65536, letter)
+}
+
+// Writes n in hexadecimal with letters from `letter` on ('a' is 97, 'A' is 65).
+fn put_hex(out: &mut [u8], at: usize, n: u64, letter: u8) -> usize
+    requires { ⌜ letter ≤ 97 ⌝ }
+    ensures { λ r. ⌜ Put (now (out .entry)) at (digits 16 letter 16 n) (now (out .exit)) r ⌝ }
+{
+    if n < 0x1_0000_0000 {
+        return put_middle(out, at, n, letter);
+    }
+    let k = put_middle(out, at, n / 0x1_0000_0000, letter);
+    put_eight(out, k, n % 0x1_0000_0000, letter)
 }
 
 // At least four digits, which are written at once where there are no more.
@@ -75,7 +108,14 @@ fn put_hex4(out: &mut [u8], at: usize, n: u64, letter: u8) -> usize
     if n < 65536 {
         return put_four(out, at, n, letter);
     }
-    put_hex(out, at, n, letter, 4)
+    put_hex(out, at, n, letter)
+}
+
+// Writes `{:02X}` of a byte.
+pub fn put_hex_byte(out: &mut [u8], at: usize, b: u8) -> usize
+    ensures { λ r. ⌜ Put (now (out .entry)) at (padded 2 (hexUpper b)) (now (out .exit)) r ⌝ }
+{
+    put_pair(out, at, b as u64, 65)
 }
 
 // Writes `{:04x}`.
@@ -92,19 +132,17 @@ pub fn put_hex_upper4(out: &mut [u8], at: usize, n: u64) -> usize
     put_hex4(out, at, n, 65)
 }
 
-// Writes `{:016X}`, by four digits at once.
+// Writes `{:016X}`, by eight digits at once.
 pub fn put_hex_upper16(out: &mut [u8], at: usize, n: u64) -> usize
     ensures { λ r. ⌜ Put (now (out .entry)) at (hexUpper16 n) (now (out .exit)) r ⌝ }
 {
-    let a = put_four(out, at, n / 0x1_0000_0000_0000, 65);
-    let b = put_four(out, a, n / 0x1_0000_0000 % 65536, 65);
-    let c = put_four(out, b, n / 65536 % 65536, 65);
-    put_four(out, c, n % 65536, 65)
+    let k = put_eight(out, at, n / 0x1_0000_0000, 65);
+    put_eight(out, k, n % 0x1_0000_0000, 65)
 }
 
 // Writes `{:X}`.
 pub fn put_hex_upper(out: &mut [u8], at: usize, n: u64) -> usize
     ensures { λ r. ⌜ Put (now (out .entry)) at (hexUpper n) (now (out .exit)) r ⌝ }
 {
-    put_hex(out, at, n, 65, 0)
+    put_hex(out, at, n, 65)
 }

@@ -2,7 +2,7 @@
 // more than a store of eight bytes.
 ghost use mathlib.Core.Path.{_≡_};
 ghost use mathlib.Core.List.{[], _∷_, _++_};
-ghost use Prim.Native.Nat.{_+_, _-_, _<_, _≤_, _/_, _%_};
+ghost use Prim.Native.Nat.{_+_, _-_, _<_, _≤_};
 ghost use lib.Dec.{ltb};
 ghost use lib.ListN.{length};
 ghost use Rattle.lists.specs.Choice.{pick, both};
@@ -10,7 +10,7 @@ ghost use Rattle.lists.specs.Write.{ByWords};
 ghost use Rattle.spec_numbers.specs.LittleEndian.{le};
 ghost use Rattle.spec_numbers.specs.Print.{decimal, signedDecimal, hexLower4};
 ghost use Rattle.spec_numbers.specs.TwosComplement.{signed};
-ghost use Rattle.numbers.specs.Digits.{fourDigits, fourHexDigits};
+ghost use Rattle.numbers.specs.Digits.{twoDigits, fourDigits, eightDigits, fourHexDigits};
 use crate::print_hex::digit_char;
 use crate::words::has_room;
 use crate::words::put_word;
@@ -50,7 +50,7 @@ fn hundreds(n: u64) -> u64
 // The two digits of a number below 100 as bytes of a word, the first the lowest.
 fn pair_word(n: u64) -> u64
     requires { ⌜ n < 100 ⌝ }
-    ensures { λ r. ⌜ (r ≡ le ((48 + n / 10) ∷ (48 + n % 10) ∷ [])) × (r < 65536) ⌝ }
+    ensures { λ r. ⌜ (r ≡ le (twoDigits n)) × (r < 65536) ⌝ }
 {
     // The ones are n less ten times the tens: in the upper byte 10 * 256 off for each ten, and 1 in the lower.
     0x3030 + n * 256 - tens(n) * 2559
@@ -86,7 +86,7 @@ fn put_four_word(out: &mut [u8], at: usize, n: u64) -> usize
 // Eight digits, with zeros in front.
 fn put_eight_word(out: &mut [u8], at: usize, n: u64) -> usize
     requires { ⌜ (n < 100000000) × (at + 8 ≤ length (now out)) ⌝ }
-    ensures { λ r. ⌜ ByWords (now (out .entry)) at (fourDigits (n / 10000) ++ fourDigits (n % 10000)) (now (out .exit)) r ⌝ }
+    ensures { λ r. ⌜ ByWords (now (out .entry)) at (eightDigits n) (now (out .exit)) r ⌝ }
 {
     let front = four_word(n / 10000);
     set_word(out, at, 8, front + four_word(n % 10000) * 0x1_0000_0000)
@@ -152,10 +152,12 @@ fn offset_word(n: u64) -> u64
     requires { ⌜ n < 65536 ⌝ }
     ensures { λ r. ⌜ r ≡ le (fourHexDigits 97 n ++ (32 ∷ 32 ∷ [])) ⌝ }
 {
-    let a = wide_byte(digit_char(n / 4096, 97));
-    let b = wide_byte(digit_char(n / 256 % 16, 97));
-    let c = wide_byte(digit_char(n / 16 % 16, 97));
-    let d = wide_byte(digit_char(n % 16, 97));
+    let front = n / 256;
+    let back = n % 256;
+    let a = wide_byte(digit_char(front / 16, 97));
+    let b = wide_byte(digit_char(front % 16, 97));
+    let c = wide_byte(digit_char(back / 16, 97));
+    let d = wide_byte(digit_char(back % 16, 97));
     a + b * 256 + c * 65536 + d * 0x100_0000 + 0x2020_0000_0000
 }
 

@@ -1,16 +1,16 @@
 -- Laws of printed numbers, in any base. Assumes nothing.
 use mathlib.Core.Path.{_≡_, refl, ap, sym, _∙_}
-use mathlib.Core.Bool.{Bool, true, false}
+use mathlib.Core.Bool.{Bool, true}
 use Prim.Native.Nat.{ℕ, zero, suc, _+_, _-_, _/_, _%_, _^_, _≤_, _<_}
-use native.Mathlib.Nat.{pow-suc, pow-zero, one-mul, div-lt-iff-lt-mul, le-div-iff-mul-le, mod-lt, lt-of-lt-of-le, pow-le-pow-right, div-eq-of-lt, div-le-self, div-lt-self, mod-eq-of-lt}
+use native.Mathlib.Nat.{pow-suc, pow-zero, one-mul, div-lt-iff-lt-mul, le-div-iff-mul-le, mod-lt, lt-of-lt-of-le, pow-le-pow-right, div-eq-of-lt, mod-eq-of-lt}
 use native.Mathlib.Omega.{arith}
 use mathlib.Core.List.{List, [], _∷_, _++_, append-assoc}
 use lib.ListN.{length, getD, replicate, length-append, length-replicate, List·getD-append, replicate-append-replicate}
-use lib.Dec.{ltb, leb}
-use borrow.Author.Tests.{le-leb, lt-ltb, le-ltb, ltb-true, leb-true, leb-false}
+use lib.Dec.{leb}
+use borrow.Author.Tests.{le-leb, lt-ltb, le-ltb}
 use Rattle.lists.specs.Choice.{both}
 use Rattle.lists.specs.Scan.{all}
-use Rattle.lists.proofs.Tests.{by-leb, both-yes, both-left, both-right}
+use Rattle.lists.proofs.Tests.{by-leb, both-yes, both-left}
 use Rattle.lists.proofs.Scans.{all-append}
 use Rattle.spec_numbers.specs.Print.{digit, digits, padded, decimal, signedDecimal, hexLower, hexUpper, hexLower4}
 use Rattle.spec_numbers.specs.TwosComplement.{signed}
@@ -161,22 +161,15 @@ module _ (base letter : ℕ) (some : 0 < base) (w : ℕ) where
       (ap (λ (l : ℕ). replicate l 48 ++ (digit letter n ∷ [])) e)
 
   -- one digit is all
-  pub padded-one : (k n : ℕ) → both (ltb n base) (leb w 1) ≡ true → padded w (digits base letter (suc k) n) ≡ digit letter n ∷ []
-  padded-one k n e =
-      rw (digits-small base letter k n (ltb-true n base (both-left (ltb n base) (leb w 1) e)))
-      (padded-long w (digit letter n ∷ []) (leb-true w 1 (both-right (ltb n base) (leb w 1) e)))
+  pub padded-one : (k n : ℕ) → n < base → w ≤ 1 → padded w (digits base letter (suc k) n) ≡ digit letter n ∷ []
+  padded-one k n m h = rw (digits-small base letter k n m) (padded-long w (digit letter n ∷ []) h)
 
   -- more stands in front of the last digit
-  pub padded-more : (k n : ℕ) → both (ltb n base) (leb w 1) ≡ false → n < base ^ suc (suc k)
+  pub padded-more : (k n : ℕ) → (n < base → w ≤ 1 → ⊥) → n < base ^ suc (suc k)
       → padded w (digits base letter (suc (suc k)) n) ≡ padded (w - 1) (digits base letter (suc (suc k)) (n / base)) ++ (digit letter (n % base) ∷ [])
-  padded-more k n e h = by-leb base n (λ m. padded-last k n m h) (λ m. padded-zeros (suc k) n m (leb-false w 1 (rw (lt-ltb n base m) at e)))
-
-  -- and what stands in front is less
-  pub padded-less : (n : ℕ) → both (ltb n base) (leb w 1) ≡ false → 1 < base → n / base + (w - 1) < n + w
-  padded-less n e b =
-      by-leb base n
-      (λ m. let q : n / base < n = div-lt-self (omega arith) b in omega arith)
-      (λ m. omega (arith, div-le-self n base, leb-false w 1 (rw (lt-ltb n base m) at e)))
+  padded-more k n e h =
+      by-leb base n (λ m. padded-last k n m h)
+      (λ m. by-leb w 1 (λ l. absurd (e m l)) (λ l. padded-zeros (suc k) n m l))
 
 -- a text with no zeros asked for
 pub unpadded : (s : List ℕ) → padded 0 s ≡ s

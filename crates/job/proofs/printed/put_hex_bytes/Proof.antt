@@ -20,14 +20,11 @@ abbrev μ-loop : tie.MeasureT-loop
 loop-holds : tie.Need-loop-holds Inv-loop μ-loop
 loop-holds c = (omega arith, same-piece (sym hex-none) (wrote-none (omega arith) (omega arith)), ap length hex-none)
 
-shared-slice-read-put-hex : tie.Need-shared-slice-read-put-hex Inv-loop μ-loop
-shared-slice-read-put-hex c = search needs
+shared-slice-read-put-hex-byte : tie.Need-shared-slice-read-put-hex-byte Inv-loop μ-loop
+shared-slice-read-put-hex-byte c = search needs
 
-cast-put-hex : tie.Need-cast-put-hex Inv-loop μ-loop
-cast-put-hex c = omega (arith, c .shared-slice-known2 .given (c .before .before .before .loop .i))
-
-put-hex-requires : tie.Need-put-hex-requires Inv-loop μ-loop
-put-hex-requires c κs = search needs
+put-hex-byte-requires : tie.Need-put-hex-byte-requires Inv-loop μ-loop
+put-hex-byte-requires c κs = search needs
 
 add-i : tie.Need-add-i Inv-loop μ-loop
 add-i c = search needs
@@ -37,7 +34,7 @@ loop-less c = search needs
 
 loop-again : tie.Need-loop-again Inv-loop μ-loop
 unfolding hexUpper
-loop-again c = let l = c .before .before .before .before .before .before .loop in let w = hex-turn _ _ (l .inv .1) (l .inv .2) (c .before .before .before .before .before .loop-test .taken) (omega (arith, c .before .before .before .shared-slice-known2 .given (l .i))) (c .before .before .put-hex .ensures) in (search needs, w .0, w .1)
+loop-again c = let l = c .before .before .before .before .before .before .loop in let w = hex-turn _ _ (l .inv .1) (l .inv .2) (c .before .before .before .before .before .loop-test .taken) (omega (arith, c .before .before .before .shared-slice-known2 .given (l .i))) (c .before .before .put-hex-byte .ensures) in (search needs, w .0, w .1)
 
 same-length : tie.Need-same-length Inv-loop μ-loop
 same-length c = kept-length (c .before .loop .inv .1)
@@ -52,9 +49,8 @@ put-hex-bytes-spec =
     Inv-loop
     μ-loop
     loop-holds
-    shared-slice-read-put-hex
-    cast-put-hex
-    put-hex-requires
+    shared-slice-read-put-hex-byte
+    put-hex-byte-requires
     add-i
     loop-less
     loop-again

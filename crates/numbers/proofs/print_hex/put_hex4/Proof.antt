@@ -1,7 +1,8 @@
 use borrow.Author.Needs.{needs}
 use mathlib.Core.Path.{sym}
+use native.Mathlib.Omega.{arith}
 use Rattle.lists.proofs.Writes.{same-piece}
-use Rattle.numbers.proofs.HexTurns.{hex-four}
+use Rattle.numbers.proofs.HexTurns.{hex-four, hex-more}
 use Rattle.numbers.proofs.print_hex.put_hex4.Statement.{statement}
 use Rattle.numbers.proofs.print_hex.put_hex4.Tie as tie
 
@@ -23,7 +24,9 @@ same-length-2 : tie.Need-same-length-2
 same-length-2 c = search needs
 
 returns-2 : tie.Need-returns-2
-returns-2 c = search needs
+returns-2 c =
+    let b = c .before .before .before .before in
+    same-piece (sym (hex-more _ _ (b .if1 .left) (omega arith))) (c .before .before .put-hex .ensures)
 
 pub put-hex4-spec : {M : Type 1} → statement M
 put-hex4-spec =

@@ -1,7 +1,5 @@
 use borrow.Author.Needs.{needs}
-use Rattle.lists.proofs.Writes.{same-piece}
 use Rattle.spec_numbers.specs.Print.{hexUpper}
-use Rattle.spec_numbers.proofs.PrintLaws.{unpadded}
 use Rattle.numbers.proofs.print_hex.put_hex_upper.Statement.{statement}
 use Rattle.numbers.proofs.print_hex.put_hex_upper.Tie as tie
 
@@ -13,7 +11,7 @@ same-length c = search needs
 
 returns : tie.Need-returns
 unfolding hexUpper
-returns c = same-piece (unpadded _) (c .before .before .put-hex .ensures)
+returns c = c .before .before .put-hex .ensures
 
 pub put-hex-upper-spec : {M : Type 1} → statement M
 put-hex-upper-spec = tie.close (tie.spec put-hex-requires same-length returns)

@@ -93,7 +93,7 @@ chained-none hash buckets n heads nexts e l = record {
   bucket-count = ap length e ∙ length-replicate buckets n;
   room = l;
   head-of = λ h b. rw e (getD-replicate buckets h n 0 b ∙ sym (first-end hash h n n (omega arith)));
-  next-of = λ i a b. absurd (omega arith);
+  next-of = λ i a b m. absurd (omega arith);
 }
 
 -- the index in front of those in chains is put in front of the chain of its hash
@@ -105,9 +105,19 @@ module _ (hash : ℕ → ℕ) (buckets n j k h : ℕ) (heads nexts heads′ next
     head-of = λ g o. by-eqb g h
         (λ z. rw (q, z, getD-set-same heads h k 0 (omega (arith, c .bucket-count))) (sym (first-here hash h n k l (sym e))))
         (λ z. rw (q, getD-set-other heads h g k 0 z) (c .head-of g o ∙ ap (firstWith hash g n) s ∙ sym (first-next hash g n k l (λ y. z (sym y ∙ sym e)))));
-    next-of = λ i a o. by-eqb i k
+    next-of = λ i a o m. by-eqb i k
         (λ z. rw (p, z, getD-set-same nexts k (getD heads h 0) 0 (omega (arith, c .room))) (c .head-of h b ∙ ap (firstWith hash h n) s ∙ ap (λ (g : ℕ). firstWith hash g n (k + 1)) e))
-        (λ z. rw (p, getD-set-other nexts k i (getD heads h 0) 0 z) (c .next-of i (omega (arith, z, s)) o));
+        (λ z. rw (p, getD-set-other nexts k i (getD heads h 0) 0 z) (c .next-of i (omega (arith, z, s)) o m));
+  }
+
+-- one whose hash is no bucket is left out
+module _ (hash : ℕ → ℕ) (buckets n j k : ℕ) {heads nexts : List ℕ} where
+  pub chained-past : Chained hash buckets n j heads nexts → j ≡ k + 1 → k < n → buckets ≤ hash k → Chained hash buckets n k heads nexts
+  chained-past c s l b = record {
+    bucket-count = c .bucket-count;
+    room = c .room;
+    head-of = λ g o. c .head-of g o ∙ ap (firstWith hash g n) s ∙ sym (first-next hash g n k l (λ y. omega (arith, y)));
+    next-of = λ i a o m. by-eqb i k (λ z. absurd (omega (arith, ap hash z))) (λ z. c .next-of i (omega (arith, z, s)) o m);
   }
 
 -- both, where one list has the heads in front of the nexts
@@ -130,8 +140,8 @@ module _ (hash : ℕ → ℕ) (buckets n : ℕ) (index index′ : List ℕ) wher
       (rw (q, take-set-lt buckets more h k b, take-set-le buckets index (buckets + k) v (omega arith)) refl)
 
 -- every step of a walk goes on, so that it ends
-chain-rises : (hash : ℕ → ℕ) (buckets n : ℕ) (heads nexts : List ℕ) → Chained hash buckets n 0 heads nexts → (i : ℕ) → i < n → i < getD nexts i 0
-chain-rises hash buckets n heads nexts c i l = rw (c .next-of i (omega arith) l) (omega (arith, first-least hash (hash i) n (i + 1)))
+chain-rises : (hash : ℕ → ℕ) (buckets n : ℕ) (heads nexts : List ℕ) → Chained hash buckets n 0 heads nexts → (i : ℕ) → i < n → hash i < buckets → i < getD nexts i 0
+chain-rises hash buckets n heads nexts c i l b = rw (c .next-of i (omega arith) l b) (omega (arith, first-least hash (hash i) n (i + 1)))
 
 -- a walk of a chain: its start, and the step behind an index that is not the one looked for
 module _ {A : Type 0} (hash : ℕ → ℕ) (buckets n h : ℕ) (heads nexts : List ℕ) (answer : ℕ → A) (c : Chained hash buckets n 0 heads nexts) (b : h < buckets) (f : (i : ℕ) → i < n → (hash i ≡ h → ⊥) → answer i ≡ answer (i + 1)) where
@@ -143,16 +153,16 @@ module _ {A : Type 0} (hash : ℕ → ℕ) (buckets n h : ℕ) (heads nexts : Li
 
   walk-next : (i : ℕ) → Walk hash n h answer i → i < n → answer i ≡ answer (i + 1) → Walk hash n h answer (getD nexts i 0)
   walk-next i w l e =
-      rw (c .next-of i (omega arith) l, w .in-chain l) (on-from (i + 1) (omega arith) (w .same-answer ∙ e))
+      rw (c .next-of i (omega arith) l (omega (arith, w .in-chain l)), w .in-chain l) (on-from (i + 1) (omega arith) (w .same-answer ∙ e))
 
 -- the same where one list has the heads in front of the nexts
 module _ (hash : ℕ → ℕ) (buckets n : ℕ) (index : List ℕ) (c : ChainedIn hash buckets n 0 index) where
   pub in-room : buckets + n ≤ length index
   in-room = omega (arith, c .bucket-count, c .room, length-take buckets index, length-drop buckets index)
 
-  pub in-rises : (i : ℕ) → i < n → i < getD index (buckets + i) 0
-  in-rises i l =
-      rw (getD-drop buckets index i 0) at (chain-rises hash buckets n (take buckets index) (drop buckets index) c i l)
+  pub in-rises : {A : Type 0} {answer : ℕ → A} {h i : ℕ} → h < buckets → Walk hash n h answer i → i < n → i < getD index (buckets + i) 0
+  in-rises {i = i} b w l =
+      rw (getD-drop buckets index i 0) at (chain-rises hash buckets n (take buckets index) (drop buckets index) c i l (omega (arith, w .in-chain l)))
 
   module _ {A : Type 0} (h : ℕ) (answer : ℕ → A) (b : h < buckets) (f : (i : ℕ) → i < n → (hash i ≡ h → ⊥) → answer i ≡ answer (i + 1)) where
     pub in-start : Walk hash n h answer (getD index h 0)

@@ -1,6 +1,6 @@
 -- How the hash of a text steps, by four bytes. Assumes nothing.
 use mathlib.Core.Path.{_≡_, refl, ap, _∙_}
-use mathlib.Core.List.{List, []}
+use mathlib.Core.List.{List}
 use Prim.Native.Nat.{ℕ, suc, _+_, _-_, _*_, _/_, _%_, _≤_, _<_}
 use native.Mathlib.Nat.{lt-of-lt-of-le, pow-le-pow-right, mul-le-mul-right, suc-mul}
 use native.Mathlib.Omega.{arith}
@@ -45,11 +45,6 @@ hash-four s l = rw (le-ltb (length s) 4 l)
 -- the number of so few bytes
 pub short-number : (n : ℕ) (s : List ℕ) → Bytes s → n < 4 → le (take n s) < 4294967296
 short-number n s b l = lt-of-lt-of-le (le-bound n s b) (pow-le-pow-right {n = 256} (omega arith) {j = 4} (omega arith))
-
--- the empty text
-pub hash-none : hashOf [] ≡ 0
-unfolding hashOf hashWith le
-hash-none = refl
 
 -- a hash that is scaled to m buckets is one of them
 pub scaled : (h m : ℕ) → h < 65536 → h * m + m ≤ 65536 * m

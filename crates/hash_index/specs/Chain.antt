@@ -17,12 +17,12 @@ unfoldable pub firstWith : (ℕ → ℕ) → ℕ → ℕ → ℕ → ℕ
 firstWith hash h n k = firstFrom hash h k (n - k)
 
 -- the indexes from k to n are in chains: a bucket's head is the first index with its hash, and behind each index stands
--- the next one with the same hash; n ends a chain
+-- the next one with the same hash; n ends a chain. An index whose hash is no bucket is in none
 pub record Chained (hash : ℕ → ℕ) (buckets n k : ℕ) (heads nexts : List ℕ) : Type 0 where
   pub bucket-count : length heads ≡ buckets
   pub room : n ≤ length nexts
   pub head-of : (h : ℕ) → h < buckets → getD heads h 0 ≡ firstWith hash h n k
-  pub next-of : (i : ℕ) → k ≤ i → i < n → getD nexts i 0 ≡ firstWith hash (hash i) n (i + 1)
+  pub next-of : (i : ℕ) → k ≤ i → i < n → hash i < buckets → getD nexts i 0 ≡ firstWith hash (hash i) n (i + 1)
 
 -- the same in one list: the buckets' heads, and behind them the nexts
 abbrev pub ChainedIn : (ℕ → ℕ) → ℕ → ℕ → ℕ → List ℕ → Type 0

@@ -5,11 +5,14 @@ use mathlib.Core.List.{List, []}
 use Prim.Native.Nat.{ℕ, _+_, _≤_, _<_}
 use lib.Dec.{ltb}
 use lib.ListN.{length, getD}
-use Rattle.lists.specs.Scan.{same, part}
-use Rattle.lists.proofs.Tests.{by-test, both-right}
+use native.Mathlib.Omega.{arith}
+use borrow.Author.Tests.{ltb-true, eq-eqb, ne-eqb}
+use Rattle.lists.specs.Scan.{same}
+use Rattle.lists.proofs.Tests.{by-test, both-left, both-right}
 use Rattle.lists.proofs.Scans.{same-eq}
 use Rattle.slices.specs.Answers.{foundOf}
 use Rattle.slices.specs.declared.search.Found.the-variants.{At, Missing}
+use Rattle.spec_sheet.specs.Line.{nameSize, nameIn}
 use Rattle.spec_sheet.specs.Sheet.{hasName, findName}
 use Rattle.spec_sheet.proofs.NameLaws.{find-end, find-here, find-next}
 use Rattle.hash_index.specs.Hash.{bucketOf}
@@ -17,13 +20,24 @@ use Rattle.hash_index.specs.Chain.{Walk}
 use Rattle.hash_index.proofs.ChainLaws.{in-start, in-next}
 use Rattle.sheet.specs.Keys.{nameBuckets, bucketAt, NamesIndexed, nameFrom}
 
--- an opcode that has a name is in the name's bucket
+-- the bucket of an opcode that has a name; a gap has none
+module _ (s : List ℕ) (rows : List (List ℕ)) (k : ℕ) where
+  pub named-bucket : 0 < nameSize (getD rows k []) → bucketAt s rows k ≡ bucketOf nameBuckets (nameIn s (getD rows k []))
+  unfolding bucketAt
+  named-bucket h = rw (ne-eqb (nameSize (getD rows k [])) 0 (λ z. omega arith))
+
+  pub gap-bucket : nameSize (getD rows k []) ≤ 0 → nameBuckets ≤ bucketAt s rows k
+  unfolding bucketAt
+  gap-bucket h = rw (eq-eqb (nameSize (getD rows k [])) 0 (omega arith)) (omega arith)
+
+-- an opcode that has this name is in the name's bucket
 in-bucket : (s name : List ℕ) (rows : List (List ℕ)) (k : ℕ) → hasName s name (getD rows k []) ≡ true → bucketAt s rows k ≡ bucketOf nameBuckets name
-unfolding hasName bucketAt
+unfolding hasName
 in-bucket s name rows k e =
     let row = getD rows k [] in
-    let own = part s (getD row 2 0) (getD row 3 0) in
-    ap (bucketOf nameBuckets) (same-eq own name (both-right (ltb 0 (getD row 3 0)) (same own name) e))
+    let some = ltb 0 (nameSize row) in
+    let equal = same (nameIn s row) name in
+    named-bucket s rows k (ltb-true 0 (nameSize row) (both-left some equal e)) ∙ ap (bucketOf nameBuckets) (same-eq (nameIn s row) name (both-right some equal e))
 
 module _ (s name : List ℕ) (rows : List (List ℕ)) (h : ℕ) (e : h ≡ bucketOf nameBuckets name) where
   -- so one in another bucket is passed over
@@ -32,13 +46,13 @@ module _ (s name : List ℕ) (rows : List (List ℕ)) (h : ℕ) (e : h ≡ bucke
       find-next s name rows i
       (by-test (hasName s name (getD rows i [])) (λ t. absurd (z (in-bucket s name rows i t ∙ sym e))) (λ t. t))
 
-  module _ (index : List ℕ) (c : NamesIndexed s rows index) (b : h < 1024) where
+  module _ (index : List ℕ) (c : NamesIndexed s rows index) (b : h < 256) where
     pub name-start : Walk (bucketAt s rows) 256 h (nameFrom s name rows) (getD index h 0)
-    name-start = in-start (bucketAt s rows) 1024 256 index c h (nameFrom s name rows) b passed
+    name-start = in-start (bucketAt s rows) 256 256 index c h (nameFrom s name rows) b passed
 
     -- behind an opcode with another name
-    pub name-next : (k : ℕ) → Walk (bucketAt s rows) 256 h (nameFrom s name rows) k → k < 256 → hasName s name (getD rows k []) ≡ false → Walk (bucketAt s rows) 256 h (nameFrom s name rows) (getD index (1024 + k) 0)
-    name-next k w l t = in-next (bucketAt s rows) 1024 256 index c h (nameFrom s name rows) b passed k w l (find-next s name rows k t)
+    pub name-next : (k : ℕ) → Walk (bucketAt s rows) 256 h (nameFrom s name rows) k → k < 256 → hasName s name (getD rows k []) ≡ false → Walk (bucketAt s rows) 256 h (nameFrom s name rows) (getD index (256 + k) 0)
+    name-next k w l t = in-next (bucketAt s rows) 256 256 index c h (nameFrom s name rows) b passed k w l (find-next s name rows k t)
 
 -- the opcode that has the name, and the end of the chain
 module _ (s name : List ℕ) (rows : List (List ℕ)) (h k : ℕ) (w : Walk (bucketAt s rows) 256 h (nameFrom s name rows) k) where

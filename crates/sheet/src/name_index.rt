@@ -10,27 +10,24 @@ ghost use Rattle.spec_sheet.specs.Sheet.{findName};
 ghost use Rattle.sheet.specs.Keys.{nameBuckets, opcodeCount, NamesIndexed};
 use slices::search::Found;
 
-const NAME_BUCKETS: usize = 1024;
+const NAME_BUCKETS: usize = 256;
 
 const OPCODE_COUNT: usize = 256;
 
 // How long the index is.
 pub const NAME_INDEX: usize = NAME_BUCKETS + OPCODE_COUNT;
 
-// The bucket of the name in a row. A gap has an empty name, whose hash is 0.
+// The bucket of the name in a row.
 fn row_bucket(sheet: &[u8], row: [usize; 4]) -> usize
     ensures { λ r. ⌜ (r ≡ bucketOf nameBuckets (nameIn (now (sheet .entry)) row)) × (r < nameBuckets) ⌝ }
 {
     let start = row[crate::rows::NAME_START];
     let size = row[crate::rows::NAME_SIZE];
-    if size == 0 {
-        return 0;
-    }
     let name = slices::part::part_of(sheet, start, size);
     hash_index::hash::bucket_of(name, NAME_BUCKETS)
 }
 
-// Puts the names of all opcodes into chains, from the last opcode down, so that the first of equal names is found.
+// Puts the names of all opcodes into chains, from the last opcode down, so that the first of equal names is found. Gaps are passed over.
 pub fn index_names(sheet: &[u8], ops: &[[usize; 4]; 256], index: &mut [u32])
     requires { ⌜ nameBuckets + opcodeCount ≤ length (now index) ⌝ }
     ensures { λ _. ⌜ NamesIndexed (now (sheet .entry)) (now (ops .entry)) (now (index .exit)) ⌝ }
@@ -38,11 +35,12 @@ pub fn index_names(sheet: &[u8], ops: &[[usize; 4]; 256], index: &mut [u32])
     hash_index::chain::empty_heads(index, NAME_BUCKETS, OPCODE_COUNT);
     let mut left = OPCODE_COUNT;
     while 0 < left {
-        let k = left - 1;
-        let row = ops[k];
-        let h = row_bucket(sheet, row);
-        hash_index::chain::put_in_front(index, NAME_BUCKETS, h, k);
         left -= 1;
+        let row = ops[left];
+        if 0 < row[crate::rows::NAME_SIZE] {
+            let h = row_bucket(sheet, row);
+            hash_index::chain::put_in_front(index, NAME_BUCKETS, h, left);
+        }
     }
 }
 

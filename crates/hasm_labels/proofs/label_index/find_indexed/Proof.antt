@@ -74,7 +74,7 @@ loop-less : tie.Need-loop-less Inv-loop μ-loop
 loop-less c =
     let st = c .before .before .before .before .before .before .before .before .before .before .before in
     let m = labelBuckets (st .args .index .now) in
-    omega (arith, c .index-at2 .ensures, in-rises (bucketAt m (st .args .text .now) (st .args .labels .now)) m (length (st .args .labels .now)) (st .args .index .now) (st .pre .chained) (c .before .before .before .before .before .loop .k) (c .before .before .before .before .loop-test .taken))
+    omega (arith, c .index-at2 .ensures, in-rises (bucketAt m (st .args .text .now) (st .args .labels .now)) m (length (st .args .labels .now)) (st .args .index .now) (st .pre .chained) (c .before .before .before .before .before .before .before .bucket-of .ensures .1) (c .before .before .before .before .before .loop .inv) (c .before .before .before .before .loop-test .taken))
 
 loop-again : tie.Need-loop-again Inv-loop μ-loop
 loop-again c =

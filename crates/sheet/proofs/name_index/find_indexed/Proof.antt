@@ -21,7 +21,7 @@ bucket-of-requires c κs = search needs
 index-at-requires : tie.Need-index-at-requires Inv-loop μ-loop
 index-at-requires c κs =
     let st = c .before .before .before .before .before in
-    omega (arith, in-room (bucketAt (st .args .sheet .now) (st .args .ops .now)) 1024 256 (st .args .index .now) (st .pre))
+    omega (arith, in-room (bucketAt (st .args .sheet .now) (st .args .ops .now)) 256 256 (st .args .index .now) (st .pre))
 
 loop-holds : tie.Need-loop-holds Inv-loop μ-loop
 loop-holds c =
@@ -50,13 +50,13 @@ add-index-at c = search needs
 index-at-requires-2 : tie.Need-index-at-requires-2 Inv-loop μ-loop
 index-at-requires-2 c κs =
     let st = c .before .before .before .before .before .before .before .before .before .before .before in
-    omega (arith, in-room (bucketAt (st .args .sheet .now) (st .args .ops .now)) 1024 256 (st .args .index .now) (st .pre))
+    omega (arith, in-room (bucketAt (st .args .sheet .now) (st .args .ops .now)) 256 256 (st .args .index .now) (st .pre))
 
 loop-less : tie.Need-loop-less Inv-loop μ-loop
 loop-less c =
     let a = c .before .before .before .before .before .before .before .before .before .before .before .before .args in
     let l = c .before .before .before .before .before .loop in
-    omega (arith, c .index-at2 .ensures, in-rises (bucketAt (a .sheet .now) (a .ops .now)) 1024 256 (a .index .now) (c .before .before .before .before .before .before .before .before .before .before .before .before .pre) (l .k) (omega arith))
+    omega (arith, c .index-at2 .ensures, in-rises (bucketAt (a .sheet .now) (a .ops .now)) 256 256 (a .index .now) (c .before .before .before .before .before .before .before .before .before .before .before .before .pre) (c .before .before .before .before .before .before .before .bucket-of .ensures .1) (l .inv) (omega arith))
 
 loop-again : tie.Need-loop-again Inv-loop μ-loop
 loop-again c =

@@ -1,8 +1,6 @@
 use Rattle.sheet.specs.Keys.{nameBuckets}
 use Rattle.hash_index.specs.Hash.{bucketOf}
 use mathlib.Core.Path.{_∙_, ap}
-use native.Mathlib.Omega.{arith}
-use Rattle.hash_index.proofs.HashLaws.{hash-none}
 use borrow.Author.Needs.{needs}
 use Rattle.sheet.proofs.name_index.row_bucket.Statement.{statement}
 use Rattle.sheet.proofs.name_index.row_bucket.Tie as tie
@@ -13,17 +11,14 @@ array-read-start c = search needs
 array-read-size : tie.Need-array-read-size
 array-read-size c = search needs
 
-returns : tie.Need-returns
-returns c = (rw (c .if1 .taken, hash-none), omega arith)
-
 part-of-requires : tie.Need-part-of-requires
 part-of-requires c κs = search needs
 
 bucket-of-requires : tie.Need-bucket-of-requires
 bucket-of-requires c κs = search needs
 
-returns-2 : tie.Need-returns-2
-returns-2 c = (c .bucket-of .ensures .0 ∙ ap (bucketOf nameBuckets) (c .before .part-of .ensures), c .bucket-of .ensures .1)
+returns : tie.Need-returns
+returns c = (c .bucket-of .ensures .0 ∙ ap (bucketOf nameBuckets) (c .before .part-of .ensures), c .bucket-of .ensures .1)
 
 pub row-bucket-spec : {M : Type 1} → statement M
 row-bucket-spec =
@@ -31,7 +26,6 @@ row-bucket-spec =
     (tie.spec
     array-read-start
     array-read-size
-    returns
     part-of-requires
     bucket-of-requires
-    returns-2)
+    returns)

@@ -73,7 +73,7 @@ loop-less c =
     let k = c .before .before .before .before .before .before .before .before in
     let a = k .before .before .before .before .before .args in
     let m = k .buckets-of .result in
-    omega (arith, c .index-at2 .ensures, in-rises (bucketAt m (a .bytes .now) (a .ends .now)) m (length (a .ends .now)) (a .index .now) (chained k) (l .id) (c .before .before .before .before .loop-test .taken))
+    omega (arith, c .index-at2 .ensures, in-rises (bucketAt m (a .bytes .now) (a .ends .now)) m (length (a .ends .now)) (a .index .now) (chained k) (c .before .before .before .before .before .before .before .bucket-of .ensures .1) (l .inv) (c .before .before .before .before .loop-test .taken))
 
 loop-again : tie.Need-loop-again Inv-loop μ-loop
 loop-again c =

@@ -14,7 +14,7 @@ use Rattle.spec_numbers.specs.LittleEndian.{le, leBytes}
 use Rattle.spec_numbers.specs.Print.{digit, decimal, signedDecimal, hexLower, hexLower4}
 use Rattle.spec_numbers.specs.TwosComplement.{signed}
 use Rattle.spec_numbers.proofs.ByteLaws.{leBytes-le}
-use Rattle.numbers.specs.Digits.{fourDigits, fourHexDigits}
+use Rattle.numbers.specs.Digits.{twoDigits, fourDigits, fourHexDigits}
 use Rattle.numbers.proofs.ByteSums.{le-append, le-shift, bytes-bits}
 use Rattle.numbers.proofs.DecimalTurns.{decimal-one, decimal-two, decimal-three, decimal-four}
 use Rattle.numbers.proofs.HexTurns.{hex-four}
@@ -32,12 +32,11 @@ bytes-each (b ∷ s) (h, t) (suc i) = bytes-each s t i
 
 -- four digits by the pairs of the hundreds and of what is left
 module _ (n : ℕ) where
-  two-pairs : le ((48 + n / 100 / 10) ∷ (48 + n / 100 % 10) ∷ []) + le ((48 + n % 100 / 10) ∷ (48 + n % 100 % 10) ∷ []) * 65536 ≡ le (fourDigits n)
+  two-pairs : le (twoDigits (n / 100)) + le (twoDigits (n % 100)) * 65536 ≡ le (fourDigits n)
   unfolding le
   two-pairs = omega arith
 
-  pub four-of-pairs : (h x y : ℕ) → h ≡ n / 100 → x ≡ le ((48 + h / 10) ∷ (48 + h % 10) ∷ []) → y ≡ le ((48 + (n - h * 100) / 10) ∷ (48 + (n - h * 100) % 10) ∷ [])
-      → x + y * 65536 ≡ le (fourDigits n)
+  pub four-of-pairs : (h x y : ℕ) → h ≡ n / 100 → x ≡ le (twoDigits h) → y ≡ le (twoDigits (n - h * 100)) → x + y * 65536 ≡ le (fourDigits n)
   four-of-pairs h x y e a b =
       let f : n - h * 100 ≡ n % 100 = omega arith in
       rw (a, b, f, e) two-pairs

@@ -4,6 +4,7 @@ use mathlib.Core.Bool.{Bool, true, false}
 use mathlib.Core.List.{List, [], _∷_, _++_}
 use Prim.Native.Nat.{ℕ, zero, suc, _+_, _-_, _*_, _/_, _%_, _^_, _≤_, _<_}
 use native.Mathlib.Omega.{arith}
+use lib.Bits.{bitAnd, and-block, and-high}
 use lib.Dec.{ltb}
 use borrow.Author.Tests.{lt-ltb, le-ltb}
 use lib.ListN.{length}
@@ -133,9 +134,37 @@ signed-text true n h =
     by-leb n 2147483647 (λ l. rw (le-ltb 2147483647 n l, lt-ltb n 2147483648 (omega arith)) refl)
     (λ l. let e : suc (4294967296 - suc n) ≡ 4294967296 - n = omega arith in rw (lt-ltb 2147483647 n l, le-ltb n 2147483648 (omega arith), e) refl)
 
-digit-byte : (d : ℕ) → d < 16 → digit 97 d < 256
+-- a digit as a sum, by whether it is a letter
+digit-sum : (d : ℕ) → d < 16 → digit 97 d ≡ 48 + d + (d + 6) / 16 * 39
 unfolding digit
-digit-byte d h = by-leb 10 d (λ g. rw (le-ltb d 10 g) (omega arith)) (λ g. rw (lt-ltb d 10 g) (omega arith))
+digit-sum d h = by-leb 10 d (λ g. rw (le-ltb d 10 g) (omega arith)) (λ g. rw (lt-ltb d 10 g) (omega arith))
+
+digit-byte : (d : ℕ) → d < 16 → digit 97 d < 256
+digit-byte d h = omega (arith, digit-sum d h)
+
+-- from 10 on, the sum with 6 has one bit more
+letter-bit : (d : ℕ) → d < 16 → bitAnd (d + 6) 16 ≡ (d + 6) / 16 * 16
+letter-bit d h = omega (arith, and-high (d + 6) 1 4)
+
+-- four digits as bytes of a word, the first the lowest
+abbrev pub valuesOf : ℕ → ℕ → ℕ → ℕ → ℕ
+valuesOf a b c d = a + b * 256 + c * 65536 + d * 16777216
+
+module _ (a b c d : ℕ) (h : a < 16) (i : b < 16) (j : c < 16) (k : d < 16) where
+  -- which of them are letters, all at once
+  letter-bits : bitAnd (valuesOf a b c d + 0x06060606) 0x10101010 / 16 ≡ valuesOf ((a + 6) / 16) ((b + 6) / 16) ((c + 6) / 16) ((d + 6) / 16)
+  letter-bits =
+      let e : valuesOf a b c d + 0x06060606 ≡ (((d + 6) * 256 + (c + 6)) * 256 + (b + 6)) * 256 + (a + 6) = omega arith in
+      let f = and-block 8 (((d + 6) * 256 + (c + 6)) * 256 + (b + 6)) 0x101010 (a + 6) 16 (omega arith) (omega arith) in
+      let g = and-block 8 ((d + 6) * 256 + (c + 6)) 0x1010 (b + 6) 16 (omega arith) (omega arith) in
+      let m = and-block 8 (d + 6) 16 (c + 6) 16 (omega arith) (omega arith) in
+      rw e (omega (arith, f, g, m, letter-bit a h, letter-bit b i, letter-bit c j, letter-bit d k))
+
+  -- their characters and two spaces
+  pub digits-sum : valuesOf a b c d + bitAnd (valuesOf a b c d + 0x06060606) 0x10101010 / 16 * 39 + 0x202030303030
+      ≡ le (digit 97 a ∷ digit 97 b ∷ digit 97 c ∷ digit 97 d ∷ 32 ∷ 32 ∷ [])
+  unfolding le
+  digits-sum = rw (letter-bits, digit-sum a h, digit-sum b i, digit-sum c j, digit-sum d k) (omega arith)
 
 -- four hexadecimal digits and two spaces
 pub offset-digits : (n : ℕ) → n < 65536 → leBytes 6 (le (fourHexDigits 97 n ++ (32 ∷ 32 ∷ []))) ≡ hexLower4 n ++ (32 ∷ 32 ∷ [])

@@ -8,7 +8,7 @@ use slices::write::put_byte;
 use slices::write::put_bytes;
 
 // The character of a digit; letters from `letter` on.
-pub(crate) fn digit_char(d: u64, letter: u8) -> u8
+fn digit_char(d: u64, letter: u8) -> u8
     requires { ⌜ (d < 16) × (letter ≤ 97) ⌝ }
     ensures { λ r. ⌜ r ≡ digit letter d ⌝ }
 {
@@ -132,7 +132,7 @@ pub fn put_hex_upper4(out: &mut [u8], at: usize, n: u64) -> usize
     put_hex4(out, at, n, 65)
 }
 
-// Writes `{:016X}`, by eight digits at once.
+// Writes `{:016X}`, eight digits and eight more.
 pub fn put_hex_upper16(out: &mut [u8], at: usize, n: u64) -> usize
     ensures { λ r. ⌜ Put (now (out .entry)) at (hexUpper16 n) (now (out .exit)) r ⌝ }
 {

@@ -11,11 +11,9 @@ ghost use Rattle.spec_numbers.specs.LittleEndian.{le};
 ghost use Rattle.spec_numbers.specs.Print.{decimal, signedDecimal, hexLower4};
 ghost use Rattle.spec_numbers.specs.TwosComplement.{signed};
 ghost use Rattle.numbers.specs.Digits.{twoDigits, fourDigits, eightDigits, fourHexDigits};
-use crate::print_hex::digit_char;
 use crate::words::has_room;
 use crate::words::put_word;
 use crate::words::set_word;
-use slices::widen::wide_byte;
 
 fn one_if(more: bool) -> usize
     ensures { λ r. ⌜ (r ≡ pick more 1 0) × (r ≤ 1) ⌝ }
@@ -147,18 +145,17 @@ pub fn put_signed(out: &mut [u8], at: usize, minus: bool, n: u64) -> usize
     put_decimal(out, k, magnitude(negative, n))
 }
 
-// The four hexadecimal digits of a number and two spaces, as they stand in front of a listed line.
+// The four hexadecimal digits of a number and two spaces, as they stand in front of a listed line. All digits are made characters at
+// once: from 10 on the sum with 6 has one bit more, and a letter stands 39 behind where the digits would go on.
 fn offset_word(n: u64) -> u64
     requires { ⌜ n < 65536 ⌝ }
     ensures { λ r. ⌜ r ≡ le (fourHexDigits 97 n ++ (32 ∷ 32 ∷ [])) ⌝ }
 {
     let front = n / 256;
     let back = n % 256;
-    let a = wide_byte(digit_char(front / 16, 97));
-    let b = wide_byte(digit_char(front % 16, 97));
-    let c = wide_byte(digit_char(back / 16, 97));
-    let d = wide_byte(digit_char(back % 16, 97));
-    a + b * 256 + c * 65536 + d * 0x100_0000 + 0x2020_0000_0000
+    let values = front / 16 + front % 16 * 256 + back / 16 * 65536 + back % 16 * 0x100_0000;
+    let letters = ((values + 0x0606_0606) & 0x1010_1010) / 16;
+    values + letters * 39 + 0x2020_3030_3030
 }
 
 // Writes them: `{:04x}` and two spaces.

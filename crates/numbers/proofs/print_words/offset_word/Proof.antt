@@ -1,75 +1,60 @@
-use Rattle.spec_numbers.specs.LittleEndian.{le}
+use Prim.Native.Nat.{ℕ, _+_, _/_, _%_}
+use lib.Bits.{and-le-r}
 use native.Mathlib.Omega.{arith}
 use borrow.Author.Needs.{needs}
+use Rattle.numbers.proofs.WordDigits.{valuesOf, digits-sum}
 use Rattle.numbers.proofs.print_words.offset_word.Statement.{statement}
 use Rattle.numbers.proofs.print_words.offset_word.Tie as tie
 
-digit-char-requires : tie.Need-digit-char-requires
-digit-char-requires c κs = search needs
+-- the four digits
+abbrev values : ℕ → ℕ
+values n = valuesOf (n / 256 / 16) (n / 256 % 16) (n % 256 / 16) (n % 256 % 16)
 
-wide-byte-requires : tie.Need-wide-byte-requires
-wide-byte-requires c κs = search needs
+mul-values : tie.Need-mul-values
+mul-values c = search needs
 
-digit-char-requires-2 : tie.Need-digit-char-requires-2
-digit-char-requires-2 c κs = search needs
+add-values : tie.Need-add-values
+add-values c = search needs
 
-wide-byte-requires-2 : tie.Need-wide-byte-requires-2
-wide-byte-requires-2 c κs = search needs
+mul-values-2 : tie.Need-mul-values-2
+mul-values-2 c = search needs
 
-digit-char-requires-3 : tie.Need-digit-char-requires-3
-digit-char-requires-3 c κs = search needs
+add-values-2 : tie.Need-add-values-2
+add-values-2 c = search needs
 
-wide-byte-requires-3 : tie.Need-wide-byte-requires-3
-wide-byte-requires-3 c κs = search needs
+mul-values-3 : tie.Need-mul-values-3
+mul-values-3 c = search needs
 
-digit-char-requires-4 : tie.Need-digit-char-requires-4
-digit-char-requires-4 c κs = search needs
+add-values-3 : tie.Need-add-values-3
+add-values-3 c = search needs
 
-wide-byte-requires-4 : tie.Need-wide-byte-requires-4
-wide-byte-requires-4 c κs = search needs
+add-letters : tie.Need-add-letters
+add-letters c = search needs
 
 mul-result : tie.Need-mul-result
-mul-result c = search needs
+mul-result c = omega (arith, and-le-r (values (c .args .n) + 0x06060606) 0x10101010)
 
 add-result : tie.Need-add-result
-add-result c = search needs
-
-mul-result-2 : tie.Need-mul-result-2
-mul-result-2 c = search needs
+add-result c = omega (arith, and-le-r (values (c .args .n) + 0x06060606) 0x10101010)
 
 add-result-2 : tie.Need-add-result-2
-add-result-2 c = search needs
-
-mul-result-3 : tie.Need-mul-result-3
-mul-result-3 c = search needs
-
-add-result-3 : tie.Need-add-result-3
-add-result-3 c = search needs
-
-add-result-4 : tie.Need-add-result-4
-add-result-4 c = search needs
+add-result-2 c = omega (arith, and-le-r (values (c .args .n) + 0x06060606) 0x10101010)
 
 returns : tie.Need-returns
-unfolding le
-returns c = omega (arith, c .before .before .before .before .before .before .before .digit-char .ensures, c .before .before .before .before .before .before .wide-byte .ensures .0, c .before .before .before .before .before .digit-char2 .ensures, c .before .before .before .before .wide-byte2 .ensures .0, c .before .before .before .digit-char3 .ensures, c .before .before .wide-byte3 .ensures .0, c .before .digit-char4 .ensures, c .wide-byte4 .ensures .0)
+returns c = digits-sum _ _ _ _ (omega arith) (omega arith) (omega arith) (omega arith)
 
 pub offset-word-spec : {M : Type 1} → statement M
 offset-word-spec =
     tie.close
     (tie.spec
-    digit-char-requires
-    wide-byte-requires
-    digit-char-requires-2
-    wide-byte-requires-2
-    digit-char-requires-3
-    wide-byte-requires-3
-    digit-char-requires-4
-    wide-byte-requires-4
+    mul-values
+    add-values
+    mul-values-2
+    add-values-2
+    mul-values-3
+    add-values-3
+    add-letters
     mul-result
     add-result
-    mul-result-2
     add-result-2
-    mul-result-3
-    add-result-3
-    add-result-4
     returns)

@@ -7,7 +7,7 @@ use native.Mathlib.Omega.{arith}
 use lib.Dec.{eqb}
 use borrow.Author.Tests.{eqb-true, ne-eqb, lt-ltb}
 use Rattle.lists.specs.Choice.{both}
-use Rattle.lists.specs.Write.{Put}
+use Rattle.lists.specs.Write.{ByWords}
 use Rattle.lists.proofs.Tests.{by-eqb, both-left, both-right, both-no-left, true-not-false}
 use Rattle.answers.specs.Outcome.{Outcome}
 use Rattle.answers.specs.declared.refusal.OperandFault.{OperandFault}
@@ -43,9 +43,9 @@ module _ (x : Carrying) (i at q new c d bits : ℕ) (out : List ℕ) (k : ℕ) (
     value-near k′ (wrote n e h w) = let z : n ≡ k′ = cc e in is-near k′ refl good h (rw z at w)
     value-near k′ (far e h) = absurd (let z : _≡_ {A = ℕ} 0 1 = cc e in omega arith)
 
-    pub value-far : (k′ : ℕ) → OperandPut x i at new c d bits out k out′ Far → OperandCarried x i at q new c d bits out k out′ (operand.Done k′ true)
-    value-far k′ (wrote n e h w) = absurd (let z : _≡_ {A = ℕ} 0 1 = cc e in omega arith)
-    value-far k′ (far e h) = is-far k′ refl good h
+    pub value-far : OperandPut x i at new c d bits out k out′ Far → OperandCarried x i at q new c d bits out k out′ (operand.Done k true)
+    value-far (wrote n e h w) = absurd (let z : _≡_ {A = ℕ} 0 1 = cc e in omega arith)
+    value-far (far e h) = is-far refl good h
 
   -- one that keeps its bytes
   module _ (e : stays c d ≡ true) (small : bits < 256 ^ widthOf c) where
@@ -81,5 +81,5 @@ module _ (x : Carrying) (i at q new c d bits : ℕ) (out : List ℕ) (k : ℕ) (
     unfolding newBits
     stays-bits = rw (ne-eqb (familyOf c) 3 no-string, ne-eqb (familyOf c) 4 no-address)
 
-    pub same-near : (k′ : ℕ) → Put out k (leBytes (widthOf c) bits) out′ k′ → OperandCarried x i at q new c d bits out k out′ (operand.Done k′ false)
+    pub same-near : (k′ : ℕ) → ByWords out k (leBytes (widthOf c) bits) out′ k′ → OperandCarried x i at q new c d bits out k out′ (operand.Done k′ false)
     same-near k′ w = is-near k′ refl stays-good stays-near (rw (stays-bits, sym same-type) w)

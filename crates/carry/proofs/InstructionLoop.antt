@@ -1,26 +1,32 @@
 -- The loop over the instructions of a body, in both passes. Assumes nothing.
 use mathlib.Core.Path.{_≡_, refl, ap, sym, _∙_}
 use mathlib.Core.Bool.{true, false}
-use mathlib.Core.List.{List, [], _∷_, _++_, append-assoc, append-nil}
-use Prim.Native.Nat.{ℕ, suc, _+_, _*_, _≤_, _<_}
+use mathlib.Core.List.{List, [], _∷_, _++_, append-assoc}
+use Prim.Native.Nat.{ℕ, suc, _+_, _*_, _%_, _≤_, _<_}
 use native.Mathlib.Numerals.{add-one}
 use native.Mathlib.Omega.{arith}
 use lib.Dec.{eqb}
-use lib.ListN.{length, drop, getD}
+use lib.ListN.{length, take, drop, getD}
 use lib.Seq.{drop-drop, getD-drop}
 use borrow.Author.Tests.{eq-eqb, ne-eqb}
 use Rattle.lists.specs.Found.{Found}
 use Rattle.lists.specs.Found.Found.{found, missing}
-use Rattle.lists.specs.Write.{Put, top}
+use Rattle.lists.specs.Write.{Put, ByWords, top}
 use Rattle.lists.proofs.Tests.{by-eqb}
-use Rattle.lists.proofs.Writes.{_then_, same-piece, wrote-none, kept-length}
+use Rattle.lists.proofs.Aheads.{_and-words_, same-ahead, ahead-front, ahead-length}
+use Rattle.lists.proofs.LeftToWrite.{Left, left-all, left-turn, left-same, left-none}
+use Rattle.slices.specs.Block.{RoomMade}
+use Rattle.slices.specs.declared.block.Gathered.{Gathered}
+use Rattle.slices.proofs.BlockLaws.{room-kept, room-length, room-left}
+use Rattle.spec_numbers.specs.LittleEndian.{leBytes}
 use Rattle.answers.specs.Outcome.{Outcome}
 use Rattle.answers.specs.Outcome.Outcome.{refusedWith}
 use Rattle.answers.specs.declared.refusal.OperandFault.{OperandFault}
 use Rattle.answers.specs.declared.refusal.OperandFault.the-variants.{Distance}
 use Rattle.answers.specs.declared.refusal.Refusal.{Refusal}
 use Rattle.answers.specs.declared.refusal.Refusal.the-variants.{UnknownName, OperandCount, BadOperand}
-use Rattle.spec_sheet.specs.Row.{lengthOf, countOf}
+use Rattle.spec_numbers.proofs.ByteLaws.{length-leBytes}
+use Rattle.spec_sheet.specs.Row.{lengthOf, totalWidth, countOf}
 use Rattle.spec_sheet.specs.Sheet.{isMissing}
 use Rattle.spec_body.specs.Record.{recordOf, offsetOf, opcodeOf, pairsOf}
 use Rattle.spec_body.specs.Decode.{rowAt}
@@ -28,9 +34,10 @@ use Rattle.spec_body.proofs.DecodeLaws.{Decoding, body-stands}
 use Rattle.spec_body.proofs.DecodeLaws.Decoding.{ended, more}
 use Rattle.spec_carry.specs.Cases.{Case, unlessCase}
 use Rattle.spec_carry.specs.Passes.{Carrying, opcodeInto, newOpcode, oldRow, newRow, movedFrom, operandsCases, farCases, newOperands, firstPass, secondPass, newBytes}
+use Rattle.spec_carry.proofs.ResultLaws.{operands-length}
 use Rattle.carry.specs.Opcodes.{stateOf}
 use Rattle.carry.specs.Ready.{Ready, carryingIn}
-use Rattle.carry.specs.Carried.{OperandsCarried, keepFirst, endedWith, BytesCarried}
+use Rattle.carry.specs.Carried.{OperandsCarried, keepFirst, endedWith, BytesCarried, blockSize, instructionStart}
 use Rattle.carry.specs.Carried.OperandsCarried.{all-near, some-far, some-refused}
 use Rattle.carry.specs.Carried.BytesCarried.{whole, refuses}
 use Rattle.carry.specs.declared.instructions.Operands.{Operands}
@@ -40,6 +47,11 @@ use Rattle.carry.specs.declared.instructions.Bytes.the-variants as bytes
 use Rattle.carry.specs.declared.instructions.Far.{Far}
 use Rattle.carry.proofs.OperandLoop.{Promised}
 use Rattle.carry.proofs.PlaceLoop.{length-is, new-length-is}
+
+-- a byte's word
+one-byte : (b : ℕ) → b < 256 → leBytes 1 b ≡ b ∷ []
+unfolding leBytes
+one-byte b h = let e : b % 256 ≡ b = omega arith in rw e
 
 -- what an opcode's state says
 module _ (m n : ℕ) where
@@ -137,53 +149,78 @@ module _ (types types₂ rows : List (List ℕ)) (last : ℕ) (s map ids out₀ 
   abbrev AllPromised : List ℕ → Bytes → Type 0
   AllPromised out r = (g : Ready types types₂ rows last s map ids) → BytesCarried (carryingIn g) (g .records) out₀ out r
 
-  -- what the second pass has done: it wrote all instructions before the i-th, or `far` is the first 8 among them; those left have
-  -- the records rs
-  data Written (g : Ready types types₂ rows last s map ids) (rs : List (List ℕ)) (out : List ℕ) (k i : ℕ) (far : Far) : Type 0 where
-    wrote-all : far .operand ≡ 0 → (seen : List ℕ) → Put out₀ 0 seen out k → newBytes (carryingIn g) 0 (g .records) ≡ seen ++ newBytes (carryingIn g) i rs
+  -- what the second pass has done: it wrote all instructions before the i-th, the last of them into the block, or `far` is the
+  -- first 8 among them; those left have the records rs
+  data Written (g : Ready types types₂ rows last s map ids) (rs : List (List ℕ)) (out block : List ℕ) (k n i : ℕ) (far : Far) : Type 0 where
+    wrote-all : far .operand ≡ 0 → Left (newBytes (carryingIn g) 0 (g .records)) out₀ 0 (take n block ++ newBytes (carryingIn g) i rs) out k
         → ((cs : List Case) (rest : Outcome) → unlessCase (secondPass (carryingIn g) 0 (g .records) ++ cs) rest ≡ unlessCase (secondPass (carryingIn g) i rs ++ cs) rest)
-        → Written g rs out k i far
+        → Written g rs out block k n i far
     met-far : (far .operand ≡ 0 → ⊥)
         → ((cs : List Case) (rest : Outcome) → unlessCase (secondPass (carryingIn g) 0 (g .records) ++ cs) rest ≡ refusedWith (BadOperand Distance (far .instruction) (far .operand)))
-        → Written g rs out k i far
+        → Written g rs out block k n i far
 
   -- and the first pass: the instructions before the i-th pass; the i-th goes to `new`
-  record Midway (g : Ready types types₂ rows last s map ids) (out : List ℕ) (k new i : ℕ) (far : Far) (at : ℕ) : Type 0 where
+  record Midway (g : Ready types types₂ rows last s map ids) (out block : List ℕ) (k n new i : ℕ) (far : Far) (at : ℕ) : Type 0 where
     rs : List (List ℕ)
     stands : Decoding types last s at rs
     checked : (cs : List Case) (rest : Outcome) → unlessCase (firstPass (carryingIn g) 0 (g .records) ++ cs) rest ≡ unlessCase (firstPass (carryingIn g) i rs ++ cs) rest
-    written : Written g rs out k i far
+    written : Written g rs out block k n i far
     moved : drop i (carryingIn g .moved) ≡ movedFrom (g .from) (g .into) new rs
 
-  pub record Going (out : List ℕ) (k new i : ℕ) (far : Far) (at : ℕ) : Type 0 where
+  pub record Going (out block : List ℕ) (k n new i : ℕ) (far : Far) (at : ℕ) : Type 0 where
     pub below : i ≤ at
     pub inside : at ≤ length s
     pub small : new ≤ 65 * at
     pub same : length out ≡ length out₀
-    midway : (g : Ready types types₂ rows last s map ids) → Midway g out k new i far at
+    pub size : length block ≡ blockSize
+    pub held : n ≤ blockSize
+    midway : (g : Ready types types₂ rows last s map ids) → Midway g out block k n new i far at
 
-  pub start : (far : Far) → far .operand ≡ 0 → length out₀ ≤ top → Going out₀ 0 0 0 far 0
-  start far e h = record {
+  pub start : (block : List ℕ) (far : Far) → length block ≡ blockSize → far .operand ≡ 0 → length out₀ ≤ top → Going out₀ block 0 0 0 0 far 0
+  start block far l e h = record {
     below = omega arith;
     inside = omega arith;
     small = omega arith;
     same = refl;
+    size = l;
+    held = omega arith;
     midway = λ g. record {
       rs = g .records;
       stands = body-stands types last s (g .records) (g .decodes);
       checked = λ cs rest. refl;
-      written = wrote-all e [] (wrote-none h (omega arith)) refl (λ cs rest. refl);
+      written = wrote-all e (left-all h (omega arith)) (λ cs rest. refl);
       moved = refl;
     };
   }
 
-  module _ (out : List ℕ) (k new i : ℕ) (far : Far) (at : ℕ) (going : Going out k new i far at) where
-    -- at the end
-    pub all-done : length s ≤ at → AllPromised out (endedWith k far)
-    unfolding firstPass secondPass newBytes endedWith
-    all-done h g = go (m .written)
+  module _ (out block : List ℕ) (k n new i : ℕ) (far : Far) (at : ℕ) (going : Going out block k n new i far at) where
+    -- room for an instruction was made
+    pub roomy : {out′ : List ℕ} {r : Gathered} → RoomMade instructionStart block n out k out′ r → (r .kept ≤ instructionStart) × Going out′ block (r .next) (r .kept) new i far at
+    roomy {out′} {r} w = (
+      room-kept w,
+      record {
+        below = going .below;
+        inside = going .inside;
+        small = going .small;
+        same = room-length w ∙ going .same;
+        size = going .size;
+        held = omega (arith, room-kept w);
+        midway = λ g.
+            let m = going .midway g in
+            record { rs = m .rs; stands = m .stands; checked = m .checked; written = go g (m .rs) (m .written); moved = m .moved };
+      },
+    )
       where
-        m : Midway g out k new i far at
+        go : (g : Ready types types₂ rows last s map ids) (rs : List (List ℕ)) → Written g rs out block k n i far → Written g rs out′ block (r .next) (r .kept) i far
+        go g rs (wrote-all z left near) = wrote-all z (room-left (newBytes (carryingIn g) i rs) w left) near
+        go g rs (met-far z f) = met-far z f
+
+    -- at the end, where what the block holds goes to the output
+    pub all-done : {out′ : List ℕ} {r : ℕ} → length s ≤ at → Put out k (take n block) out′ r → AllPromised out′ (endedWith r far)
+    unfolding firstPass secondPass newBytes endedWith
+    all-done {out′} {r} h put g = go (m .written)
+      where
+        m : Midway g out block k n new i far at
         m = going .midway g
 
         e : m .rs ≡ []
@@ -192,11 +229,11 @@ module _ (types types₂ rows : List (List ℕ)) (last : ℕ) (s map ids out₀ 
         passes : (cs : List Case) (rest : Outcome) → unlessCase (firstPass (carryingIn g) 0 (g .records) ++ cs) rest ≡ unlessCase cs rest
         passes cs rest = m .checked cs rest ∙ ap (λ (l : List (List ℕ)). unlessCase (firstPass (carryingIn g) i l ++ cs) rest) e
 
-        go : Written g (m .rs) out k i far → BytesCarried (carryingIn g) (g .records) out₀ out (endedWith k far)
-        go (wrote-all z seen put bs near) =
-            whole k (rw z)
+        go : Written g (m .rs) out block k n i far → BytesCarried (carryingIn g) (g .records) out₀ out′ (endedWith r far)
+        go (wrote-all z left near) =
+            whole r (rw z)
             (λ cs rest. passes _ rest ∙ (near cs rest ∙ ap (λ (l : List (List ℕ)). unlessCase (secondPass (carryingIn g) i l ++ cs) rest) e))
-            (same-piece (sym (bs ∙ (ap (λ (l : List (List ℕ)). seen ++ newBytes (carryingIn g) i l) e ∙ append-nil seen))) put)
+            (left-none (left-turn left refl put) (ap (newBytes (carryingIn g) i) e))
         go (met-far n f) = refuses (BadOperand Distance (far .instruction) (far .operand)) (rw (ne-eqb (far .operand) 0 n)) (λ cs rest. passes _ rest ∙ f cs rest)
 
     module _ (h : at < length s) (u : getD s at 0 < 256) where
@@ -222,7 +259,7 @@ module _ (types types₂ rows : List (List ℕ)) (last : ℕ) (s map ids out₀ 
         pub most : getD row 3 0 ≤ 65
 
       module _ (g : Ready types types₂ rows last s map ids) where
-        abbrev m : Midway g out k new i far at
+        abbrev m : Midway g out block k n new i far at
         m = going .midway g
 
         abbrev instruction : Next types last s at (m .rs)
@@ -255,6 +292,12 @@ module _ (types types₂ rows : List (List ℕ)) (last : ℕ) (s map ids out₀ 
 
         length-here : getD row 2 0 ≡ lengthOf old
         length-here = length-is (g .from) (g .into) last rows (g .rows-are) op u (instruction .small) ∙ ap lengthOf old-is
+
+        new-length : getD row 3 0 ≡ lengthOf (newRow (g .from) (g .into) record-here)
+        new-length = new-length-is (g .from) (g .into) last rows (g .rows-are) op u (instruction .small)
+
+        new-size : getD row 3 0 ≡ 1 + totalWidth row′
+        new-size = new-length ∙ ap lengthOf new-is
 
         pub here : Here
         here = record {
@@ -295,19 +338,27 @@ module _ (types types₂ rows : List (List ℕ)) (last : ℕ) (s map ids out₀ 
               said (carryingIn g) i (g .mapped) (g .translated) (g .zeros op) (g .zeros₂ (getD row 1 0)) (rw (old-is, new-is) at same-count) new-is-here
 
           bad-here : (out₁ : List ℕ) (b : ℕ) (out′ : List ℕ) (f : OperandFault) (q : ℕ) → OperandsCarried (carryingIn g) i at new old row′ (pairsOf record-here) out₁ b out′ (Refused f q)
-              → BytesCarried (carryingIn g) (g .records) out₀ out′ (bytes.Refused (BadOperand f i q))
+              → BytesCarried (carryingIn g) (g .records) out₀ out (bytes.Refused (BadOperand f i q))
           bad-here out₁ b out′ f q (all-near n z a c w) = absurd (let y : _≡_ {A = ℕ} 0 1 = cc z in omega arith)
-          bad-here out₁ b out′ f q (some-far n v z a c) = absurd (let y : _≡_ {A = ℕ} 0 1 = cc z in omega arith)
+          bad-here out₁ b out′ f q (some-far n v z l a c) = absurd (let y : _≡_ {A = ℕ} 0 1 = cc z in omega arith)
           bad-here out₁ b out′ f q (some-refused f′ q′ z a) =
               let y : f′ ≡ f = cc z in
               let w : q′ ≡ q = cc z in
-              refused-here (BadOperand f i q) (λ cs rest. over-operands cs rest ∙ (a _ rest ∙ rw (y, w))) out′
+              refused-here (BadOperand f i q) (λ cs rest. over-operands cs rest ∙ (a _ rest ∙ rw (y, w))) out
 
           passes-here : (out₁ : List ℕ) (b : ℕ) (out′ : List ℕ) (k′ q : ℕ) → OperandsCarried (carryingIn g) i at new old row′ (pairsOf record-here) out₁ b out′ (Done k′ q)
               → (cs : List Case) (rest : Outcome) → unlessCase (operandsCases (carryingIn g) i at 1 old row′ (pairsOf record-here) ++ cs) rest ≡ unlessCase cs rest
           passes-here out₁ b out′ k′ q (all-near n z a c w) = a
-          passes-here out₁ b out′ k′ q (some-far n v z a c) = a
+          passes-here out₁ b out′ k′ q (some-far n v z l a c) = a
           passes-here out₁ b out′ k′ q (some-refused f q′ z a) = absurd (let y : _≡_ {A = ℕ} 0 1 = cc z in omega arith)
+
+          -- where they end
+          next-most : (out₁ : List ℕ) (b : ℕ) (out′ : List ℕ) (k′ q : ℕ) → OperandsCarried (carryingIn g) i at new old row′ (pairsOf record-here) out₁ b out′ (Done k′ q) → k′ ≤ b + 64
+          next-most out₁ b out′ k′ q (all-near n′ z a c w) =
+              let y : n′ ≡ k′ = cc z in
+              omega (arith, y, w .next, operands-length (carryingIn g) at new old row′ (pairsOf record-here), new-size, here .most)
+          next-most out₁ b out′ k′ q (some-far n′ v z l a c) = let y : n′ ≡ k′ = cc z in omega arith
+          next-most out₁ b out′ k′ q (some-refused f q′ z a) = absurd (let y : _≡_ {A = ℕ} 0 1 = cc z in omega arith)
 
           -- the second pass goes on from here
           far-first : (cs : List Case) (rest : Outcome) → unlessCase (secondPass (carryingIn g) i (m .rs) ++ cs) rest
@@ -316,35 +367,38 @@ module _ (types types₂ rows : List (List ℕ)) (last : ℕ) (s map ids out₀ 
               ap (λ (l : List (List ℕ)). unlessCase (secondPass (carryingIn g) i l ++ cs) rest) (instruction .are)
               ∙ first-far (carryingIn g) i record-here (instruction .others) old row′ old-is new-is cs rest
 
-          written-next : (out₁ : List ℕ) (b : ℕ) (out′ : List ℕ) (k′ q : ℕ) → Put out k (getD row 1 0 ∷ []) out₁ b → OperandsCarried (carryingIn g) i at new old row′ (pairsOf record-here) out₁ b out′ (Done k′ q)
-              → Written g (m .rs) out k i far → Written g (instruction .others) out′ k′ (suc i) (keepFirst far i q)
-          written-next out₁ b out′ k′ q byte o (met-far n f) = rw (keep-old far i q n) (met-far n f)
-          written-next out₁ b out′ k′ q byte (all-near n z a c w) (wrote-all e′ seen put bs near) =
-              let y : n ≡ k′ = cc z in
+          written-next : (out₁ : List ℕ) (b : ℕ) (out′ : List ℕ) (k′ q : ℕ) → ByWords block n (leBytes 1 (getD row 1 0)) out₁ b → OperandsCarried (carryingIn g) i at new old row′ (pairsOf record-here) out₁ b out′ (Done k′ q)
+              → n ≤ instructionStart → Written g (m .rs) out block k n i far → Written g (instruction .others) out out′ k k′ (suc i) (keepFirst far i q)
+          written-next out₁ b out′ k′ q byte o few (met-far z f) = rw (keep-old far i q z) (met-far z f)
+          written-next out₁ b out′ k′ q byte (all-near n′ z a c w) few (wrote-all e′ left near) =
+              let y : n′ ≡ k′ = cc z in
               let v : q ≡ 0 = cc z in
               let piece = getD row 1 0 ∷ newOperands (carryingIn g) at new old row′ (pairsOf record-here) in
+              let put : ByWords block n piece out′ k′ = same-ahead (one-byte (getD row 1 0) (here .known)) byte and-words (rw y at w) in
+              let fits : n + length piece ≤ length block = omega (arith, few, going .size, operands-length (carryingIn g) at new old row′ (pairsOf record-here), new-size, here .most) in
               rw (keep-new far i q e′)
-              (wrote-all v (seen ++ piece) (put then (byte then (rw y at w)))
-              (bs ∙ (ap (λ (l : List (List ℕ)). seen ++ newBytes (carryingIn g) i l) (instruction .are)
-              ∙ (ap (λ (l : List ℕ). seen ++ l) (first-bytes (carryingIn g) i record-here (instruction .others) old row′ old-is new-is new (getD row 1 0) new-is-here opcode-is)
-              ∙ sym (append-assoc seen piece _))))
+              (wrote-all v
+              (left-same
+              (ap (λ (l : List (List ℕ)). take n block ++ newBytes (carryingIn g) i l) (instruction .are)
+              ∙ (ap (λ (l : List ℕ). take n block ++ l) (first-bytes (carryingIn g) i record-here (instruction .others) old row′ old-is new-is new (getD row 1 0) new-is-here opcode-is)
+              ∙ (sym (append-assoc (take n block) piece _) ∙ ap (λ (l : List ℕ). l ++ newBytes (carryingIn g) (suc i) (instruction .others)) (sym (ahead-front put fits)))))
+              left)
               (λ cs rest. near cs rest ∙ (far-first cs rest ∙ c _ rest)))
-          written-next out₁ b out′ k′ q byte (some-far n v z a c) (wrote-all e′ seen put bs near) =
+          written-next out₁ b out′ k′ q byte (some-far n′ v z l a c) few (wrote-all e′ left near) =
               let w : q ≡ suc v = cc z in
               rw (keep-new far i q e′)
               (met-far (λ y. omega (arith, w, y)) (λ cs rest. near cs rest ∙ (far-first cs rest ∙ (c _ rest ∙ rw w))))
-          written-next out₁ b out′ k′ q byte (some-refused f q′ z a) (wrote-all e′ seen put bs near) = absurd (let y : _≡_ {A = ℕ} 0 1 = cc z in omega arith)
+          written-next out₁ b out′ k′ q byte (some-refused f q′ z a) few (wrote-all e′ left near) = absurd (let y : _≡_ {A = ℕ} 0 1 = cc z in omega arith)
 
-          midway-next : (out₁ : List ℕ) (b : ℕ) (out′ : List ℕ) (k′ q : ℕ) → Put out k (getD row 1 0 ∷ []) out₁ b → OperandsCarried (carryingIn g) i at new old row′ (pairsOf record-here) out₁ b out′ (Done k′ q)
-              → Midway g out′ k′ (new + getD row 3 0) (i + 1) (keepFirst far i q) (at + getD row 2 0)
-          midway-next out₁ b out′ k′ q byte o =
-              let length₃ : getD row 3 0 ≡ lengthOf (newRow (g .from) (g .into) record-here) = new-length-is (g .from) (g .into) last rows (g .rows-are) op u (instruction .small) in
+          midway-next : (out₁ : List ℕ) (b : ℕ) (out′ : List ℕ) (k′ q : ℕ) → ByWords block n (leBytes 1 (getD row 1 0)) out₁ b → OperandsCarried (carryingIn g) i at new old row′ (pairsOf record-here) out₁ b out′ (Done k′ q)
+              → n ≤ instructionStart → Midway g out out′ k k′ (new + getD row 3 0) (i + 1) (keepFirst far i q) (at + getD row 2 0)
+          midway-next out₁ b out′ k′ q byte o few =
               record {
                 rs = instruction .others;
                 stands = rw length-here (instruction .stands);
                 checked = λ cs rest. from-here cs rest ∙ (over-operands cs rest ∙ (passes-here out₁ b out′ k′ q o _ rest ∙ rw (add-one i)));
-                written = rw (add-one i) (written-next out₁ b out′ k′ q byte o (m .written));
-                moved = rw length₃ (moved-next (carryingIn g) i new record-here (instruction .others) (rw (instruction .are) at (m .moved)));
+                written = rw (add-one i) (written-next out₁ b out′ k′ q byte o few (m .written));
+                moved = rw new-length (moved-next (carryingIn g) i new record-here (instruction .others) (rw (instruction .are) at (m .moved)));
               }
 
       -- 4: the second sheet lacks its name
@@ -362,17 +416,19 @@ module _ (types types₂ rows : List (List ℕ)) (last : ℕ) (s map ids out₀ 
           (state-other (counts g) (counts′ g) (name-found g) (λ z. e (state-is g ∙ z)) (λ z. f (state-is g ∙ z)))) out
 
       -- its opcode was written at k, and then its operands were carried
-      module _ (e : getD row 0 0 ≡ 2) (out₁ : List ℕ) (b : ℕ) (byte : Put out k (getD row 1 0 ∷ []) out₁ b) (out′ : List ℕ) (r : Operands) (said : Promised old row′ s at new map ids out₁ b out′ r) where
+      module _ (e : getD row 0 0 ≡ 2) (out₁ : List ℕ) (b : ℕ) (byte : ByWords block n (leBytes 1 (getD row 1 0)) out₁ b) (out′ : List ℕ) (r : Operands) (said : Promised old row′ s at new map ids out₁ b out′ r) where
         -- an operand that cannot be carried
-        pub bad : (f : OperandFault) (q : ℕ) → r ≡ Refused f q → AllPromised out′ (bytes.Refused (BadOperand f i q))
+        pub bad : (f : OperandFault) (q : ℕ) → r ≡ Refused f q → AllPromised out (bytes.Refused (BadOperand f i q))
         bad f q v g = bad-here g e out₁ b out′ f q (rw v at (operands-said g e out₁ b out′ r said))
 
-        pub turn : Ready types types₂ rows last s map ids → length out′ ≡ length out₁ → (k′ q : ℕ) → r ≡ Done k′ q → (far′ : Far) → far′ ≡ keepFirst far i q
-            → Going out′ k′ (new + getD row 3 0) (i + 1) far′ (at + getD row 2 0)
-        turn g₀ l k′ q v far′ w = record {
+        pub turn : Ready types types₂ rows last s map ids → n ≤ instructionStart → length out′ ≡ length out₁ → (k′ q : ℕ) → r ≡ Done k′ q → (far′ : Far) → far′ ≡ keepFirst far i q
+            → Going out out′ k k′ (new + getD row 3 0) (i + 1) far′ (at + getD row 2 0)
+        turn g₀ few l k′ q v far′ w = record {
           below = omega (arith, here g₀ .some, going .below);
           inside = here g₀ .next;
           small = omega (arith, here g₀ .some, here g₀ .most, going .small);
-          same = l ∙ (kept-length byte ∙ going .same);
-          midway = λ g. rw w (midway-next g e out₁ b out′ k′ q byte (rw v at (operands-said g e out₁ b out′ r said)));
+          same = going .same;
+          size = l ∙ (ahead-length byte ∙ going .size);
+          held = omega (arith, few, byte .next, length-leBytes 1 (getD row 1 0), next-most g₀ e out₁ b out′ k′ q (rw v at (operands-said g₀ e out₁ b out′ r said)));
+          midway = λ g. rw w (midway-next g e out₁ b out′ k′ q byte (rw v at (operands-said g e out₁ b out′ r said)) few);
         }

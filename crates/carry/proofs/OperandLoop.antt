@@ -2,7 +2,7 @@
 use mathlib.Core.Path.{_≡_, refl, ap, sym, _∙_}
 use mathlib.Core.Bool.{Bool, true, false}
 use mathlib.Core.List.{List, [], _∷_, _++_, append-assoc, append-nil}
-use Prim.Native.Nat.{ℕ, suc, _+_, _≤_, _<_}
+use Prim.Native.Nat.{ℕ, suc, _+_, _*_, _≤_, _<_}
 use native.Mathlib.Numerals.{add-one}
 use native.Mathlib.Omega.{arith}
 use lib.Dec.{eqb}
@@ -10,16 +10,19 @@ use lib.ListN.{length, drop, getD, drop-of-length-le}
 use lib.Seq.{drop-cons, getD-drop}
 use borrow.Author.Tests.{ne-eqb}
 use Rattle.lists.specs.Scan.{part}
-use Rattle.lists.specs.Write.{Put, top}
+use Rattle.lists.specs.Write.{ByWords, top}
 use Rattle.lists.proofs.Tests.{both-no-left}
-use Rattle.lists.proofs.Writes.{_then_, same-piece, wrote-none}
+use Rattle.lists.proofs.Writes.{wrote-none}
+use Rattle.lists.proofs.Aheads.{_and-words_, as-words, same-ahead}
 use Rattle.answers.specs.Outcome.{Outcome}
 use Rattle.answers.specs.Outcome.Outcome.{refusedWith}
 use Rattle.answers.specs.declared.refusal.OperandFault.{OperandFault}
 use Rattle.answers.specs.declared.refusal.OperandFault.the-variants.{Distance}
 use Rattle.answers.specs.declared.refusal.Refusal.the-variants.{BadOperand}
 use Rattle.spec_numbers.specs.LittleEndian.{le, leBytes}
+use Rattle.spec_numbers.proofs.ByteLaws.{length-leBytes}
 use Rattle.spec_sheet.specs.Types.{widthOf}
+use Rattle.spec_sheet.proofs.TypeLaws.{width-most}
 use Rattle.spec_sheet.specs.Row.{sumBy, lengthOf, totalWidth, countOf}
 use Rattle.spec_body.specs.Record.{pairs}
 use Rattle.spec_carry.specs.Cases.{Case, unlessCase}
@@ -69,7 +72,7 @@ Said c d at new bits map ids out k out′ r =
 -- what the second pass has done: it wrote all operands before q, or `far` is the first of them that is too far; those left have the
 -- types cs and ds and the pairs ps′
 data Written (x : Carrying) (i at new : ℕ) (row row′ ps out₀ : List ℕ) (k : ℕ) (cs ds ps′ out : List ℕ) (n far q : ℕ) : Type 0 where
-  wrote-all : far ≡ 0 → (seen : List ℕ) → Put out₀ k seen out n → newOperands x at new row row′ ps ≡ seen ++ newOperands x at new cs ds ps′
+  wrote-all : far ≡ 0 → (seen : List ℕ) → ByWords out₀ k seen out n → newOperands x at new row row′ ps ≡ seen ++ newOperands x at new cs ds ps′
       → ((more : List Case) (rest : Outcome) → unlessCase (farCases x i at 1 row row′ ps ++ more) rest ≡ unlessCase (farCases x i at q cs ds ps′ ++ more) rest)
       → Written x i at new row row′ ps out₀ k cs ds ps′ out n far q
   met-far : (f : ℕ) → far ≡ suc f → ((more : List Case) (rest : Outcome) → unlessCase (farCases x i at 1 row row′ ps ++ more) rest ≡ refusedWith (BadOperand Distance i (suc f)))
@@ -79,13 +82,14 @@ data Written (x : Carrying) (i at new : ℕ) (row row′ ps out₀ : List ℕ) (
 pub record Midway (x : Carrying) (i at new : ℕ) (row row′ s out₀ : List ℕ) (k : ℕ) (cs ds out : List ℕ) (n far p q : ℕ) : Type 0 where
   checked : (more : List Case) (rest : Outcome) → unlessCase (operandsCases x i at 1 row row′ (pairs row s (at + 1)) ++ more) rest ≡ unlessCase (operandsCases x i at q cs ds (pairs cs s p) ++ more) rest
   written : Written x i at new row row′ (pairs row s (at + 1)) out₀ k cs ds (pairs cs s p) out n far q
+  reach : n + 8 ≤ k + 8 * q
 
 module _ {x : Carrying} {i at new : ℕ} {row row′ s out₀ : List ℕ} {k : ℕ} where
   -- none is left that has a case or bytes
   all-carried : {cs ds out : List ℕ} {n far p q : ℕ} → Midway x i at new row row′ s out₀ k cs ds out n far p q
-      → Passed (operandsCases x i at q cs ds (pairs cs s p)) → Passed (farCases x i at q cs ds (pairs cs s p)) → newOperands x at new cs ds (pairs cs s p) ≡ []
+      → q ≤ 9 → Passed (operandsCases x i at q cs ds (pairs cs s p)) → Passed (farCases x i at q cs ds (pairs cs s p)) → newOperands x at new cs ds (pairs cs s p) ≡ []
       → OperandsCarried x i at new row row′ (pairs row s (at + 1)) out₀ k out (answer.Done n far)
-  all-carried {cs} {ds} {out} {n} {far} {p} {q} m c f e = go (m .written)
+  all-carried {cs} {ds} {out} {n} {far} {p} {q} m few c f e = go (m .written)
     where
       passes : (more : List Case) (rest : Outcome) → unlessCase (operandsCases x i at 1 row row′ (pairs row s (at + 1)) ++ more) rest ≡ unlessCase more rest
       passes more rest = m .checked more rest ∙ unless-passed _ more rest c
@@ -93,8 +97,8 @@ module _ {x : Carrying} {i at new : ℕ} {row row′ s out₀ : List ℕ} {k : �
       go : Written x i at new row row′ (pairs row s (at + 1)) out₀ k cs ds (pairs cs s p) out n far q → OperandsCarried x i at new row row′ (pairs row s (at + 1)) out₀ k out (answer.Done n far)
       go (wrote-all z seen put bytes near) =
           all-near n (ap (answer.Done n) z) passes (λ more rest. near more rest ∙ unless-passed _ more rest f)
-          (same-piece (sym (bytes ∙ (rw e (append-nil seen)))) put)
-      go (met-far g z h) = some-far n g (ap (answer.Done n) z) passes h
+          (same-ahead (sym (bytes ∙ (rw e (append-nil seen)))) put)
+      go (met-far g z h) = some-far n g (ap (answer.Done n) z) (omega (arith, m .reach)) passes h
 
   -- one operand more
   module _ {c d : ℕ} {cs ds out : List ℕ} {n far p q : ℕ} (m : Midway x i at new row row′ s out₀ k (c ∷ cs) (d ∷ ds) out n far p q) where
@@ -119,8 +123,8 @@ module _ {x : Carrying} {i at new : ℕ} {row row′ s out₀ : List ℕ} {k : �
         let y : k′ ≡ n′ = cc e in
         let v : b ≡ false = cc e in
         let bs = leBytes (widthOf d) (newBits x at new c d bits) in
-        wrote-all (rw (z, v)) (seen ++ bs) (put then (rw y at w)) (bytes ∙ sym (append-assoc seen bs _)) (λ more rest. near more rest ∙ rw h)
-    written-more f u b out′ n′ (wrote-all z seen put bytes near) (is-far k′ e g h) =
+        wrote-all (rw (z, v)) (seen ++ bs) (put and-words (rw y at w)) (bytes ∙ sym (append-assoc seen bs _)) (λ more rest. near more rest ∙ rw h)
+    written-more f u b out′ n′ (wrote-all z seen put bytes near) (is-far e g h) =
         let v : b ≡ true = cc e in
         met-far f (rw (z, v) u) (λ more rest. near more rest ∙ (rw h (ap (λ (m : ℕ). refusedWith (BadOperand Distance i m)) u)))
     written-more f u b out′ n′ (wrote-all z seen put bytes near) (is-refused o e g) = absurd (let z : _≡_ {A = ℕ} 0 1 = cc e in omega arith)
@@ -131,17 +135,23 @@ module _ {x : Carrying} {i at new : ℕ} {row row′ s out₀ : List ℕ} {k : �
     one-more f u b out′ n′ o = record {
       checked = λ more rest. operand-first more rest ∙ passes o _;
       written = written-more f u b out′ n′ (m .written) o;
+      reach = omega (arith, m .reach, next-most o);
     }
       where
         passes : OperandCarried x i at q new c d bits out n out′ (Done n′ b) → (rest : Outcome) → unlessCase (operandCases x i at q c d bits) rest ≡ rest
         passes (is-near k′ e g h w) = g
-        passes (is-far k′ e g h) = g
+        passes (is-far e g h) = g
         passes (is-refused v e g) = absurd (let z : _≡_ {A = ℕ} 0 1 = cc e in omega arith)
+
+        next-most : OperandCarried x i at q new c d bits out n out′ (Done n′ b) → n′ ≤ n + 8
+        next-most (is-near k′ e g h w) = let y : k′ ≡ n′ = cc e in omega (arith, w .next, y, length-leBytes (widthOf d) (newBits x at new c d bits), width-most d)
+        next-most (is-far e g h) = let y : n ≡ n′ = cc e in omega arith
+        next-most (is-refused v e g) = absurd (let z : _≡_ {A = ℕ} 0 1 = cc e in omega arith)
 
     pub one-refused : (v : OperandFault) (out′ : List ℕ) → OperandCarried x i at q new c d bits out n out′ (Refused v)
         → OperandsCarried x i at new row row′ (pairs row s (at + 1)) out₀ k out′ (answer.Refused v q)
     one-refused v out′ (is-near k′ e g h w) = absurd (let z : _≡_ {A = ℕ} 0 1 = cc e in omega arith)
-    one-refused v out′ (is-far k′ e g h) = absurd (let z : _≡_ {A = ℕ} 0 1 = cc e in omega arith)
+    one-refused v out′ (is-far e g h) = absurd (let z : _≡_ {A = ℕ} 0 1 = cc e in omega arith)
     one-refused v out′ (is-refused f e g) =
         let z : f ≡ v = cc e in
         some-refused v q refl (λ more rest. operand-first more rest ∙ (g _ ∙ ap (λ (y : OperandFault). refusedWith (BadOperand y i q)) z))
@@ -161,7 +171,7 @@ module _ (row row′ s : List ℕ) (at new : ℕ) (map ids out₀ : List ℕ) (k
     few = omega arith;
     room = omega arith;
     same = refl;
-    left = λ x i m t here. record { checked = λ more rest. refl; written = wrote-all refl [] (wrote-none a b) refl (λ more rest. refl) };
+    left = λ x i m t here. record { checked = λ more rest. refl; written = wrote-all refl [] (as-words (wrote-none a b)) refl (λ more rest. refl); reach = omega arith };
   }
 
   module _ (out : List ℕ) (n far p j : ℕ) (g : Going row row′ s at new map ids out₀ k out n far p j) (l : length row ≡ 8) (l′ : length row′ ≡ 8) where
@@ -171,7 +181,7 @@ module _ (row row′ s : List ℕ) (at new : ℕ) (map ids out₀ : List ℕ) (k
     ended h x i m t z y e here =
         let none-left : length row ≤ j = omega arith in
         let none-left′ : length row′ ≤ j = omega arith in
-        all-carried (g .left x i m t here) (rw (drop-of-length-le row none-left) none) (rw (drop-of-length-le row none-left) none) (rw (drop-of-length-le row′ none-left′))
+        all-carried (g .left x i m t here) (omega (arith, g .few)) (rw (drop-of-length-le row none-left) none) (rw (drop-of-length-le row none-left) none) (rw (drop-of-length-le row′ none-left′))
 
     module _ (h : j < 8) (code : ℕ) (c : code ≡ getD row j 0) where
       here-old : drop j row ≡ code ∷ drop (j + 1) row
@@ -194,7 +204,7 @@ module _ (row row′ s : List ℕ) (at new : ℕ) (map ids out₀ : List ℕ) (k
           let zero-new : getD row′ j 0 ≡ 0 = same-end row row′ z y e j zero-old in
           let zeros : (k : ℕ) → getD (drop j row) k 0 ≡ 0 = λ k. getD-drop j row k 0 ∙ z j (j + k) (omega arith) zero-old in
           let zeros′ : (k : ℕ) → getD (drop j row′) k 0 ≡ 0 = λ k. getD-drop j row′ k 0 ∙ y j (j + k) (omega arith) zero-new in
-          all-carried (g .left x i m t here)
+          all-carried (g .left x i m t here) (omega arith)
           (zeros-passed x i at (j + 1) (drop j row) (drop j row′) _ zeros zeros′)
           (zeros-near x i at new (j + 1) (drop j row) (drop j row′) _ zeros′)
           (zeros-empty x i at new (drop j row) (drop j row′) _ zeros′)

@@ -10,7 +10,7 @@ use borrow.Author.Tests.{le-leb, lt-leb, ne-eqb, ltb-true}
 use Rattle.lists.specs.Choice.{pick}
 use Rattle.lists.specs.Found.{Found}
 use Rattle.lists.specs.Found.Found.{found, missing}
-use Rattle.lists.specs.Write.{Put}
+use Rattle.lists.specs.Write.{ByWords}
 use Rattle.lists.proofs.Tests.{by-test, by-leb, by-eqb, both-no-left, both-no-right, true-not-false}
 use Rattle.answers.specs.Outcome.{Outcome, produced}
 use Rattle.spec_numbers.specs.LittleEndian.{leBytes}
@@ -147,7 +147,7 @@ module _ (x : Carrying) (i at q c d bits : ℕ) (p : Passed (operandCases x i at
     bits-are = by-eqb (familyOf c) 3 of-string λ n. by-eqb (familyOf c) 4 of-target λ o. of-rest n o
 
     -- the bits as they were answered: they are written, or 8 holds
-    pub put-bits : (n : ℕ) (out : List ℕ) (k : ℕ) (out′ : List ℕ) (k′ : ℕ) → bitsIn c d at new bits map ids ≡ answer.Bits n → Put out k (leBytes (widthOf d) n) out′ k′
+    pub put-bits : (n : ℕ) (out : List ℕ) (k : ℕ) (out′ : List ℕ) (k′ : ℕ) → bitsIn c d at new bits map ids ≡ answer.Bits n → ByWords out k (leBytes (widthOf d) n) out′ k′
         → OperandPut x i at new c d bits out k out′ (To k′)
     put-bits n out k out′ k′ e put =
         by-test (isFar x i at c d bits)

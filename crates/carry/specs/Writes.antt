@@ -6,7 +6,7 @@ use Prim.Native.Nat.{ℕ, _-_}
 use lib.Dec.{eqb}
 use lib.ListN.{getD}
 use Rattle.lists.specs.Choice.{pick, both}
-use Rattle.lists.specs.Write.{Put}
+use Rattle.lists.specs.Write.{ByWords}
 use Rattle.spec_numbers.specs.LittleEndian.{leBytes}
 use Rattle.spec_sheet.specs.Types.{widthOf, familyOf, stringFamily, addrFamily, addr8}
 use Rattle.spec_carry.specs.Passes.{Carrying, near, distanceBits, newPlace, newBits}
@@ -30,7 +30,7 @@ bitsIn c d at new bits map ids =
 abbrev pub isFar : Carrying → ℕ → ℕ → ℕ → ℕ → ℕ → Bool
 isFar x i at c d bits = both (eqb d addr8) (not (near (getD (x .moved) i 0) (newPlace x at c bits)))
 
--- an operand was written, or 8 holds of it
-pub data OperandPut (x : Carrying) (i at new c d bits : ℕ) (out : List ℕ) (k : ℕ) (out′ : List ℕ) (r : Wrote) : Type 0 where
-  wrote : (k′ : ℕ) → r ≡ To k′ → isFar x i at c d bits ≡ false → Put out k (leBytes (widthOf d) (newBits x at new c d bits)) out′ k′ → OperandPut x i at new c d bits out k out′ r
-  far : r ≡ Far → isFar x i at c d bits ≡ true → OperandPut x i at new c d bits out k out′ r
+-- an operand was written into a block, or 8 holds of it
+pub data OperandPut (x : Carrying) (i at new c d bits : ℕ) (block : List ℕ) (k : ℕ) (block′ : List ℕ) (r : Wrote) : Type 0 where
+  wrote : (k′ : ℕ) → r ≡ To k′ → isFar x i at c d bits ≡ false → ByWords block k (leBytes (widthOf d) (newBits x at new c d bits)) block′ k′ → OperandPut x i at new c d bits block k block′ r
+  far : r ≡ Far → isFar x i at c d bits ≡ true → OperandPut x i at new c d bits block k block′ r

@@ -20,9 +20,11 @@ use crate::opcodes::STATE;
 use crate::operand_carry::Carried;
 use answers::refusal::OperandFault;
 use answers::refusal::Refusal;
-use slices::write::put_byte;
+use numbers::words::put_word;
+use slices::block::make_room;
+use slices::write::put_bytes;
 
-// The next place in the output and the first operand that does not reach its target, counted from 1, or 0 where all do; or what
+// The next place in the block and the first operand that does not reach its target, counted from 1, or 0 where all do; or what
 // is wrong with which operand.
 pub enum Operands {
     Done(usize, usize),
@@ -54,11 +56,11 @@ fn carry_operands(
     new: usize,
     map: &[u32],
     ids: &[u32],
-    out: &mut [u8],
+    block: &mut [u8],
     k: usize,
 ) -> Operands
     requires { ⌜ (at + lengthOf row ≤ length (now s)) × (length (now s) ≤ bodyLimit) × (new < 2 ^ 32) ⌝ }
-    ensures { λ r. ⌜ ((x : Carrying) (i : ℕ) → Mapped x (now (map .entry)) → Translated (x .«from» .bytes) (x .«from» .ends) (x .into .bytes) (x .into .ends) (now (ids .entry)) → ZerosBehind row → ZerosBehind row2 → countOf row ≡ countOf row2 → new ≡ getD (x .moved) i 0 → OperandsCarried x i at new row row2 (pairs row (now (s .entry)) (at + 1)) (now (out .entry)) k (now (out .exit)) r) ⌝ }
+    ensures { λ r. ⌜ ((x : Carrying) (i : ℕ) → Mapped x (now (map .entry)) → Translated (x .«from» .bytes) (x .«from» .ends) (x .into .bytes) (x .into .ends) (now (ids .entry)) → ZerosBehind row → ZerosBehind row2 → countOf row ≡ countOf row2 → new ≡ getD (x .moved) i 0 → OperandsCarried x i at new row row2 (pairs row (now (s .entry)) (at + 1)) (now (block .entry)) k (now (block .exit)) r) ⌝ }
 {
     let mut n = k;
     let mut far: usize = 0;
@@ -69,7 +71,7 @@ fn carry_operands(
         if c == 0 {
             return Operands::Done(n, far);
         }
-        let r = crate::operand_carry::carry_operand(c, row2[j], s, p, at, new, map, ids, out, n);
+        let r = crate::operand_carry::carry_operand(c, row2[j], s, p, at, new, map, ids, block, n);
         match r {
             Carried::Done(next, is_far) => {
                 n = next;
@@ -114,6 +116,12 @@ fn ended(k: usize, far: Far) -> Bytes
     Bytes::Refused(Refusal::BadOperand(OperandFault::Distance, far.instruction, far.operand))
 }
 
+// Instructions are gathered in a block, so that they are written by words.
+const BLOCK: usize = 2048;
+
+// Where a block may be and still have room for an instruction of 65 bytes and a word.
+const INSTRUCTION_START: usize = 1968;
+
 // Carries all instructions of a body, from the front of the output on.
 pub(crate) fn carry_instructions(
     types: &[[u8; 8]; 256],
@@ -128,6 +136,8 @@ pub(crate) fn carry_instructions(
     requires { ⌜ Ready (now types) (now types2) (now rows) last (now s) (now map) (now ids) ⌝ }
     ensures { λ r. ⌜ ((g : Ready (now (types .entry)) (now (types2 .entry)) (now (rows .entry)) last (now (s .entry)) (now (map .entry)) (now (ids .entry))) → BytesCarried (carryingIn g) (g .records) (now (out .entry)) (now (out .exit)) r) ⌝ }
 {
+    let mut block = [0u8; BLOCK];
+    let mut n: usize = 0;
     let mut k: usize = 0;
     let mut new: usize = 0;
     let mut i: usize = 0;
@@ -137,6 +147,9 @@ pub(crate) fn carry_instructions(
     };
     let mut at: usize = 0;
     while at < s.len() {
+        let gathered = make_room(out, k, &block, n, INSTRUCTION_START);
+        k = gathered.next;
+        n = gathered.kept;
         let op = s[at] as usize;
         let row = rows[op];
         let state = row[STATE];
@@ -147,11 +160,21 @@ pub(crate) fn carry_instructions(
             return Bytes::Refused(Refusal::OperandCount(i));
         }
         let opcode = row[OPCODE];
-        let b = put_byte(out, k, opcode as u8);
-        let r = carry_operands(types[op], types2[opcode], s, at, new, map, ids, out, b);
+        let b = put_word(&mut block, n, 1, opcode as u64);
+        let r = carry_operands(
+            types[op],
+            types2[opcode],
+            s,
+            at,
+            new,
+            map,
+            ids,
+            &mut block,
+            b,
+        );
         match r {
             Operands::Done(next, operand) => {
-                k = next;
+                n = next;
                 far = keep_first(far, i, operand);
             }
             Operands::Refused(fault, operand) => {
@@ -162,5 +185,6 @@ pub(crate) fn carry_instructions(
         at += row[LENGTH];
         i += 1;
     }
-    ended(k, far)
+    let end = put_bytes(out, k, &block[0..n]);
+    ended(end, far)
 }

@@ -4,7 +4,7 @@ ghost use Prim.Native.Nat.{ℕ, _+_, _^_, _<_, _≤_};
 ghost use lib.ListN.{length, getD};
 ghost use Rattle.limits.specs.Limits.{bodyLimit};
 ghost use Rattle.lists.specs.Scan.{part};
-ghost use Rattle.lists.specs.Write.{Put};
+ghost use Rattle.lists.specs.Write.{ByWords};
 ghost use Rattle.spec_numbers.specs.LittleEndian.{le, leBytes};
 ghost use Rattle.spec_sheet.specs.Types.{widthOf};
 ghost use Rattle.spec_carry.specs.Passes.{Carrying};
@@ -17,7 +17,7 @@ use answers::refusal::OperandFault;
 use sheet::operand_types::ADDR_FAMILY;
 use sheet::operand_types::STRING_FAMILY;
 
-// The next place in the output, and whether an Addr8 does not reach its target, 8, where nothing is written; or the first pass's
+// The next place in the block, and whether an Addr8 does not reach its target, 8, where nothing is written; or the first pass's
 // refusal.
 pub enum Carried {
     Done(usize, bool),
@@ -38,19 +38,17 @@ fn stays_same(c: u8, d: u8) -> bool
     family != ADDR_FAMILY
 }
 
-// Copies the bytes of an operand that keeps them. Most operands of most bodies go this way: no value is made of them, which would
-// cost a branch by its kind.
-fn copy_operand(c: u8, s: &[u8], p: usize, out: &mut [u8], k: usize) -> usize
+// Copies the bytes of an operand that keeps them. Most operands of most bodies go this way, with no branch by their kind.
+fn copy_operand(c: u8, s: &[u8], p: usize, block: &mut [u8], k: usize) -> usize
     requires { ⌜ p + widthOf c ≤ length (now s) ⌝ }
-    ensures { λ r. ⌜ Put (now (out .entry)) k (leBytes (widthOf c) (le (part (now (s .entry)) p (widthOf c)))) (now (out .exit)) r ⌝ }
+    ensures { λ r. ⌜ ByWords (now (block .entry)) k (leBytes (widthOf c) (le (part (now (s .entry)) p (widthOf c)))) (now (block .exit)) r ⌝ }
     ensures { λ _. ⌜ le (part (now (s .entry)) p (widthOf c)) < 256 ^ widthOf c ⌝ }
 {
-    let width = sheet::operand_types::width(c);
-    let bits = numbers::little_endian::read_le(s, p, width);
-    numbers::little_endian::put_le(out, k, width, bits)
+    let bits = operand::read::read_bits(c, s, p);
+    numbers::words::put_word(block, k, sheet::operand_types::width(c), bits)
 }
 
-// Carries an operand that is read as a value: checks it, then writes it.
+// Carries an operand that may change: checks it, then writes it.
 fn carry_value(
     c: u8,
     d: u8,
@@ -59,17 +57,17 @@ fn carry_value(
     bits: u64,
     map: &[u32],
     ids: &[u32],
-    out: &mut [u8],
+    block: &mut [u8],
     k: usize,
 ) -> Carried
     requires { ⌜ (at ≤ bodyLimit) × (new < 2 ^ 32) × (bits < 256 ^ widthOf c) ⌝ }
-    ensures { λ r. ⌜ ((x : Carrying) (i q : ℕ) → Mapped x (now (map .entry)) → Translated (x .«from» .bytes) (x .«from» .ends) (x .into .bytes) (x .into .ends) (now (ids .entry)) → new ≡ getD (x .moved) i 0 → OperandCarried x i at q new c d bits (now (out .entry)) k (now (out .exit)) r) ⌝ }
+    ensures { λ r. ⌜ ((x : Carrying) (i q : ℕ) → Mapped x (now (map .entry)) → Translated (x .«from» .bytes) (x .«from» .ends) (x .into .bytes) (x .into .ends) (now (ids .entry)) → new ≡ getD (x .moved) i 0 → OperandCarried x i at q new c d bits (now (block .entry)) k (now (block .exit)) r) ⌝ }
 {
     let checked = crate::operand_check::check_operand(c, d, at, bits, map, ids);
     if let Checked::Refused(fault) = checked {
         return Carried::Refused(fault);
     }
-    let wrote = crate::operand_write::put_operand(c, d, at, new, bits, map, ids, out, k);
+    let wrote = crate::operand_write::put_operand(c, d, at, new, bits, map, ids, block, k);
     match wrote {
         Wrote::To(next) => Carried::Done(next, false),
         Wrote::Far => Carried::Done(k, true),
@@ -87,17 +85,15 @@ pub(crate) fn carry_operand(
     new: usize,
     map: &[u32],
     ids: &[u32],
-    out: &mut [u8],
+    block: &mut [u8],
     k: usize,
 ) -> Carried
     requires { ⌜ (p + widthOf c ≤ length (now s)) × (at ≤ bodyLimit) × (new < 2 ^ 32) ⌝ }
-    ensures { λ r. ⌜ ((x : Carrying) (i q : ℕ) → Mapped x (now (map .entry)) → Translated (x .«from» .bytes) (x .«from» .ends) (x .into .bytes) (x .into .ends) (now (ids .entry)) → new ≡ getD (x .moved) i 0 → OperandCarried x i at q new c d (le (part (now (s .entry)) p (widthOf c))) (now (out .entry)) k (now (out .exit)) r) ⌝ }
+    ensures { λ r. ⌜ ((x : Carrying) (i q : ℕ) → Mapped x (now (map .entry)) → Translated (x .«from» .bytes) (x .«from» .ends) (x .into .bytes) (x .into .ends) (now (ids .entry)) → new ≡ getD (x .moved) i 0 → OperandCarried x i at q new c d (le (part (now (s .entry)) p (widthOf c))) (now (block .entry)) k (now (block .exit)) r) ⌝ }
 {
     if stays_same(c, d) {
-        return Carried::Done(copy_operand(c, s, p, out, k), false);
+        return Carried::Done(copy_operand(c, s, p, block, k), false);
     }
-    let o = operand::read::read_operand(c, s, p);
-    let value = o.value;
-    let bits = operand::value::bits_of(value, o.bits);
-    carry_value(c, d, at, new, bits, map, ids, out, k)
+    let bits = operand::read::read_bits(c, s, p);
+    carry_value(c, d, at, new, bits, map, ids, block, k)
 }

@@ -15,7 +15,7 @@ use sheet::operand_types::ADDR8;
 use sheet::operand_types::STRING_FAMILY;
 use slices::widen::wide;
 
-// The next place in the output, or that an Addr8 does not reach its target, 8.
+// The next place in the block, or that an Addr8 does not reach its target, 8.
 pub enum Wrote {
     To(usize),
     Far,
@@ -105,15 +105,15 @@ pub(crate) fn put_operand(
     bits: u64,
     map: &[u32],
     ids: &[u32],
-    out: &mut [u8],
+    block: &mut [u8],
     k: usize,
 ) -> Wrote
     requires { ⌜ (at ≤ bodyLimit) × (new < 2 ^ 32) × (bits < 256 ^ widthOf c) ⌝ }
-    ensures { λ r. ⌜ ((x : Carrying) (i q : ℕ) → Mapped x (now (map .entry)) → Translated (x .«from» .bytes) (x .«from» .ends) (x .into .bytes) (x .into .ends) (now (ids .entry)) → new ≡ getD (x .moved) i 0 → ((rest : Outcome) → unlessCase (operandCases x i at q c d bits) rest ≡ rest) → OperandPut x i at new c d bits (now (out .entry)) k (now (out .exit)) r) ⌝ }
+    ensures { λ r. ⌜ ((x : Carrying) (i q : ℕ) → Mapped x (now (map .entry)) → Translated (x .«from» .bytes) (x .«from» .ends) (x .into .bytes) (x .into .ends) (now (ids .entry)) → new ≡ getD (x .moved) i 0 → ((rest : Outcome) → unlessCase (operandCases x i at q c d bits) rest ≡ rest) → OperandPut x i at new c d bits (now (block .entry)) k (now (block .exit)) r) ⌝ }
 {
     let written = new_bits(c, d, at, new, bits, map, ids);
     let NewBits::Bits(n) = written else {
         return Wrote::Far;
     };
-    Wrote::To(operand::write::put_value(out, k, d, n))
+    Wrote::To(numbers::words::put_word(block, k, sheet::operand_types::width(d), n))
 }

@@ -14,6 +14,9 @@ use Rattle.lists.specs.Found.Found.{found, missing}
 use Rattle.lists.specs.Write.{Put, ByWords, top}
 use Rattle.lists.proofs.Aheads.{_and-words_, as-words, same-ahead, ahead-front, ahead-length}
 use Rattle.lists.proofs.LeftToWrite.{Left, left-all, left-turn, left-same, left-none}
+use Rattle.slices.specs.Block.{RoomMade}
+use Rattle.slices.specs.declared.block.Gathered.{Gathered}
+use Rattle.slices.proofs.BlockLaws.{room-kept, room-left}
 use Rattle.spec_numbers.specs.Print.{decimal}
 use Rattle.spec_numbers.proofs.PrintLaws.{decimal-length}
 use Rattle.spec_sheet.specs.Row.{lengthOf}
@@ -26,9 +29,7 @@ use Rattle.spec_listing.specs.Options.{Options}
 use Rattle.spec_listing.specs.Line.{instructionText}
 use Rattle.spec_listing.specs.Labels.{labelOffsets}
 use Rattle.spec_listing.specs.Listing.{labelLine, labelText, instructionLine, longLine, listedText}
-use Rattle.listing.specs.Parts.{Decodes, recordsOf, Flagged, blockSize, lineStart, RoomMade, flaggedText, optionsOf}
-use Rattle.listing.specs.Parts.RoomMade.{gone, stays}
-use Rattle.listing.specs.declared.body_lines.Gathered.{Gathered}
+use Rattle.listing.specs.Parts.{Decodes, recordsOf, Flagged, blockSize, lineStart, flaggedText, optionsOf}
 use Rattle.listing.specs.declared.options.Options as declared
 
 -- the records of a body that decodes
@@ -176,19 +177,18 @@ module _ {p : Printing} {rs : List (List ℕ)} {out₀ : List ℕ} {«from» : �
     known h = known-next p (next (g .stand) h)
 
     -- room for a line was made
-    pub roomy : {out′ : List ℕ} {r : Gathered} → RoomMade block n out k out′ r → (r .kept ≤ lineStart) × Going p rs out₀ «from» out′ block (r .next) (r .kept) at
-    roomy {out′} {r} (gone w z) = (
-      omega (arith, z),
+    pub roomy : {out′ : List ℕ} {r : Gathered} → RoomMade lineStart block n out k out′ r → (r .kept ≤ lineStart) × Going p rs out₀ «from» out′ block (r .next) (r .kept) at
+    roomy w = (
+      room-kept w,
       record {
         rest = g .rest;
         stand = g .stand;
-        writing = left-same (ap (λ (m : ℕ). take m block ++ linesIn p (g .rest)) (sym z)) (left-turn (g .writing) refl w);
+        writing = room-left (linesIn p (g .rest)) w (g .writing);
         long = g .long;
         size = g .size;
-        held = omega (arith, z);
+        held = omega (arith, room-kept w);
       },
     )
-    roomy {out′} {r} (stays h e y z) = (omega (arith, z), rw (e, y, z) g)
 
     module _ {block′ : List ℕ} {a c : ℕ} (m : Given p) (few : n ≤ lineStart) (l : Line p at block n block′ a c) where
       -- where a line starts

@@ -4,7 +4,7 @@ use mathlib.Core.Bool.{Bool}
 use mathlib.Core.List.{List, []}
 use Prim.Native.Nat.{ℕ, _≤_, _<_}
 use lib.Dec.{eqb}
-use lib.ListN.{length, take, getD}
+use lib.ListN.{length, getD}
 use Rattle.lists.specs.Choice.{pick, both}
 use Rattle.lists.specs.Found.{Found}
 use Rattle.lists.specs.Found.Found.{found, missing}
@@ -16,7 +16,6 @@ use Rattle.spec_listing.specs.Labels.{among}
 use Rattle.spec_listing.specs.Listing.{labelLine}
 use Rattle.listing.specs.declared.body_lines.Lines.{Lines}
 use Rattle.listing.specs.declared.body_lines.Lines.the-variants as lines
-use Rattle.listing.specs.declared.body_lines.Gathered.{Gathered}
 use Rattle.listing.specs.declared.options.Options as declared
 
 -- a body that decodes, and its records
@@ -55,9 +54,3 @@ blockSize = 6144
 
 abbrev pub lineStart : ℕ
 lineStart = 2000
-
--- the n bytes of a block were written at `k` and are kept no more, or have room for a line behind them: the buffer was `out` and is
--- `out′`
-pub data RoomMade (block : List ℕ) (n : ℕ) (out : List ℕ) (k : ℕ) (out′ : List ℕ) (r : Gathered) : Type 0 where
-  gone : Put out k (take n block) out′ (r .next) → r .kept ≡ 0 → RoomMade block n out k out′ r
-  stays : n ≤ lineStart → out′ ≡ out → r .next ≡ k → r .kept ≡ n → RoomMade block n out k out′ r

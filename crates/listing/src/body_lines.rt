@@ -6,13 +6,14 @@ ghost use Rattle.lists.specs.Write.{ByWords};
 ghost use Rattle.spec_body.specs.Decode.{decodeBody};
 ghost use Rattle.spec_listing.specs.Labels.{labelOffsets};
 ghost use Rattle.spec_listing.specs.Listing.{labelLine, longLine, listedText};
-ghost use Rattle.listing.specs.Parts.{Decodes, Flagged, recordsOf, Lined, RoomMade, flaggedText, optionsOf};
+ghost use Rattle.listing.specs.Parts.{Decodes, Flagged, recordsOf, Lined, flaggedText, optionsOf};
 ghost use Rattle.spec_inputs.specs.Context.{contextFrom};
 ghost use Rattle.list_labels.specs.OpcodeRows.{RowsFit};
 use crate::options::Options;
 use list_labels::opcode_rows::SIZE;
 use numbers::print_words::put_decimal;
 use numbers::words::put_word;
+use slices::block::make_room;
 use slices::widen::byte_index;
 use slices::write::put_byte;
 use slices::write::put_bytes;
@@ -23,30 +24,11 @@ pub enum Lines {
     Long(usize),
 }
 
-// Lines are gathered in a block, where what stands behind them does not matter, and go to the output a block at once. So a line is
-// written by words, whatever room the output has.
+// Lines are gathered in a block, so that they are written by words.
 const BLOCK: usize = 6144;
 
 // Where a block may be and still have room for a line: the label's, an instruction of the most bytes, and LF.
 const LINE_START: usize = 2000;
-
-// The next position of the output, and how many bytes of the block are still to be written there.
-struct Gathered {
-    next: usize,
-    kept: usize,
-}
-
-// Writes the n bytes of a block at k, where a line may not fit behind them.
-fn make_room(out: &mut [u8], k: usize, block: &[u8], n: usize) -> Gathered
-    requires { ⌜ n ≤ length (now block) ⌝ }
-    ensures { λ r. ⌜ RoomMade (now (block .entry)) n (now (out .entry)) k (now (out .exit)) r ⌝ }
-{
-    if LINE_START < n {
-        let next = put_bytes(out, k, &block[0..n]);
-        return Gathered { next, kept: 0 };
-    }
-    Gathered { next: k, kept: n }
-}
 
 fn put_label(out: &mut [u8], k: usize, indent: &[u8], at: usize) -> usize
     requires { ⌜ at ≤ bodyLimit ⌝ }
@@ -107,7 +89,7 @@ pub(crate) fn list_lines(
     let mut k = from;
     let mut at: usize = 0;
     while at < s.len() {
-        let gathered = make_room(out, k, &block, n);
+        let gathered = make_room(out, k, &block, n, LINE_START);
         k = gathered.next;
         n = gathered.kept;
         let op = s[at] as usize;

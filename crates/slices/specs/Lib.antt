@@ -1,3 +1,4 @@
 pub mod Answers
+pub mod Block
 pub mod Class
 pub mod Words

@@ -1,74 +1,96 @@
-use mathlib.Core.Path.{refl}
+use mathlib.Core.Path.{refl, _∙_}
 use Prim.Native.Nat.{_-_}
+use native.Mathlib.Numerals.{unary-clauses}
 use native.Mathlib.Omega.{arith}
 use lib.ListN.{length}
-use Rattle.carry.proofs.InstructionLoop.{Going, start, all-done, here, unknown, other-count, bad, turn}
+use Rattle.lists.proofs.Writes.{kept-length}
+use Rattle.carry.proofs.InstructionLoop.{Going, start, roomy, all-done, here, unknown, other-count, bad, turn}
 use borrow.Author.Needs.{needs}
 use Rattle.carry.proofs.instructions.carry_instructions.Statement.{statement}
 use Rattle.carry.proofs.instructions.carry_instructions.Tie as tie
 
 abbrev Inv-loop : tie.InvT-loop
-Inv-loop types types2 rows last s map ids out₀ k₀ new₀ i₀ far₀ at₀ out k new i far at = Going types types2 rows last s map ids out₀ out k new i far at
+Inv-loop types types2 rows last s map ids out₀ block₀ n₀ k₀ new₀ i₀ far₀ at₀ out block n k new i far at = Going types types2 rows last s map ids out₀ out block k n new i far at
 
 abbrev μ-loop : tie.MeasureT-loop
-μ-loop types types2 rows last s map ids out₀ k₀ new₀ i₀ far₀ at₀ out k new i far at = length s - at
+μ-loop types types2 rows last s map ids out₀ block₀ n₀ k₀ new₀ i₀ far₀ at₀ out block n k new i far at = length s - at
 
 loop-holds : tie.Need-loop-holds Inv-loop μ-loop
-loop-holds c = start _ _ _ _ _ _ _ _ _ refl (omega arith)
+loop-holds c = start _ _ _ _ _ _ _ _ _ _ (search needs) refl (omega arith)
+
+slice-aggregate-make-room : tie.Need-slice-aggregate-make-room Inv-loop μ-loop
+slice-aggregate-make-room c = search needs
+
+make-room-requires : tie.Need-make-room-requires Inv-loop μ-loop
+make-room-requires c κs = omega (arith, c .before .before .before .loop .inv .held, c .before .before .before .loop .inv .size)
 
 shared-slice-read-op : tie.Need-shared-slice-read-op Inv-loop μ-loop
 shared-slice-read-op c = search needs
 
 cast-op : tie.Need-cast-op Inv-loop μ-loop
-cast-op c = omega (arith, c .shared-slice-known4 .given (c .before .before .loop .at))
+cast-op c = omega (arith, c .shared-slice-known4 .given (c .before .before .before .before .before .before .before .loop .at))
 
 mul-row : tie.Need-mul-row Inv-loop μ-loop
-mul-row c = omega (arith, c .shared-slice-known4 .given (c .before .before .loop .at))
+mul-row c = omega (arith, c .shared-slice-known4 .given (c .before .before .before .before .before .before .before .loop .at))
 
 element-copy-out-row : tie.Need-element-copy-out-row Inv-loop μ-loop
-element-copy-out-row c = c .shared-slice-known4 .given (c .before .before .loop .at) .fits
+element-copy-out-row c = c .shared-slice-known4 .given (c .before .before .before .before .before .before .before .loop .at) .fits
 
 array-read-state : tie.Need-array-read-state Inv-loop μ-loop
 array-read-state c = search needs
 
 same-length : tie.Need-same-length Inv-loop μ-loop
-same-length c = search needs
+same-length c =
+    let room = roomy _ _ _ _ _ _ _ _ _ _ _ _ _ _ _ _ (c .before .before .before .before .before .before .before .before .before .loop .inv) (c .before .before .before .before .before .make-room .ensures) in
+    room .1 .same
 
 returns : tie.Need-returns Inv-loop μ-loop
-returns c = unknown _ _ _ _ _ _ _ _ _ _ _ _ _ _ (c .before .before .before .before .loop .inv) (c .before .before .before .loop-test .taken) (c .before .before .shared-slice-known4 .given (c .before .before .before .before .loop .at) .fits) (c .if1 .taken)
+returns c =
+    let room = roomy _ _ _ _ _ _ _ _ _ _ _ _ _ _ _ _ (c .before .before .before .before .before .before .before .before .before .loop .inv) (c .before .before .before .before .before .make-room .ensures) in
+    unknown _ _ _ _ _ _ _ _ _ _ _ _ _ _ _ _ (room .1) (c .before .before .before .before .before .before .before .before .loop-test .taken) (c .before .before .shared-slice-known4 .given (c .before .before .before .before .before .before .before .before .before .loop .at) .fits) (c .if1 .taken)
 
 same-length-2 : tie.Need-same-length-2 Inv-loop μ-loop
-same-length-2 c = search needs
+same-length-2 c =
+    let room = roomy _ _ _ _ _ _ _ _ _ _ _ _ _ _ _ _ (c .before .before .before .before .before .before .before .before .before .before .loop .inv) (c .before .before .before .before .before .before .make-room .ensures) in
+    room .1 .same
 
 returns-2 : tie.Need-returns-2 Inv-loop μ-loop
-returns-2 c = other-count _ _ _ _ _ _ _ _ _ _ _ _ _ _ (c .before .before .before .before .before .loop .inv) (c .before .before .before .before .loop-test .taken) (c .before .before .before .shared-slice-known4 .given (c .before .before .before .before .before .loop .at) .fits) (c .before .if1 .left) (c .if2 .taken)
+returns-2 c =
+    let room = roomy _ _ _ _ _ _ _ _ _ _ _ _ _ _ _ _ (c .before .before .before .before .before .before .before .before .before .before .loop .inv) (c .before .before .before .before .before .before .make-room .ensures) in
+    other-count _ _ _ _ _ _ _ _ _ _ _ _ _ _ _ _ (room .1) (c .before .before .before .before .before .before .before .before .before .loop-test .taken) (c .before .before .before .shared-slice-known4 .given (c .before .before .before .before .before .before .before .before .before .before .loop .at) .fits) (c .before .if1 .left) (c .if2 .taken)
 
 array-read-opcode : tie.Need-array-read-opcode Inv-loop μ-loop
 array-read-opcode c = search needs
 
-cast-put-byte : tie.Need-cast-put-byte Inv-loop μ-loop
-cast-put-byte c = omega (arith, here _ _ _ _ _ _ _ _ _ _ _ _ _ _ (c .before .before .before .before .before .before .loop .inv) (c .before .before .before .before .before .loop-test .taken) (c .before .before .before .before .shared-slice-known4 .given (c .before .before .before .before .before .before .loop .at) .fits) (c .before .before .before .before .before .before .before .before .before .before .before .pre))
+slice-aggregate-put-word : tie.Need-slice-aggregate-put-word Inv-loop μ-loop
+slice-aggregate-put-word c = search needs
 
-put-byte-requires : tie.Need-put-byte-requires Inv-loop μ-loop
-put-byte-requires c κs = search needs
+put-word-requires : tie.Need-put-word-requires Inv-loop μ-loop
+put-word-requires c κs = search needs
 
 mul-carry-operands : tie.Need-mul-carry-operands Inv-loop μ-loop
-mul-carry-operands c = omega (arith, c .before .before .before .before .before .before .before .shared-slice-known4 .given (c .before .before .before .before .before .before .before .before .before .loop .at))
+mul-carry-operands c = omega (arith, c .before .before .before .before .before .before .shared-slice-known4 .given (c .before .before .before .before .before .before .before .before .before .before .before .before .before .loop .at))
 
 element-copy-out-carry-operands : tie.Need-element-copy-out-carry-operands Inv-loop μ-loop
-element-copy-out-carry-operands c = c .before .before .before .before .before .before .before .shared-slice-known4 .given (c .before .before .before .before .before .before .before .before .before .loop .at) .fits
+element-copy-out-carry-operands c = c .before .before .before .before .before .before .shared-slice-known4 .given (c .before .before .before .before .before .before .before .before .before .before .before .before .before .loop .at) .fits
 
 mul-carry-operands-2 : tie.Need-mul-carry-operands-2 Inv-loop μ-loop
-mul-carry-operands-2 c = omega (arith, here _ _ _ _ _ _ _ _ _ _ _ _ _ _ (c .before .before .before .before .before .before .before .before .before .before .loop .inv) (c .before .before .before .before .before .before .before .before .before .loop-test .taken) (c .before .before .before .before .before .before .before .before .shared-slice-known4 .given (c .before .before .before .before .before .before .before .before .before .before .loop .at) .fits) (c .before .before .before .before .before .before .before .before .before .before .before .before .before .before .before .pre))
+mul-carry-operands-2 c =
+    let room = roomy _ _ _ _ _ _ _ _ _ _ _ _ _ _ _ _ (c .before .before .before .before .before .before .before .before .before .before .before .before .before .before .loop .inv) (c .before .before .before .before .before .before .before .before .before .before .make-room .ensures) in
+    omega (arith, here _ _ _ _ _ _ _ _ _ _ _ _ _ _ _ _ (room .1) (c .before .before .before .before .before .before .before .before .before .before .before .before .before .loop-test .taken) (c .before .before .before .before .before .before .before .shared-slice-known4 .given (c .before .before .before .before .before .before .before .before .before .before .before .before .before .before .loop .at) .fits) (c .before .before .before .before .before .before .before .before .before .before .before .before .before .before .before .before .before .before .before .pre))
 
 element-copy-out-carry-operands-2 : tie.Need-element-copy-out-carry-operands-2 Inv-loop μ-loop
-element-copy-out-carry-operands-2 c = here _ _ _ _ _ _ _ _ _ _ _ _ _ _ (c .before .before .before .before .before .before .before .before .before .before .loop .inv) (c .before .before .before .before .before .before .before .before .before .loop-test .taken) (c .before .before .before .before .before .before .before .before .shared-slice-known4 .given (c .before .before .before .before .before .before .before .before .before .before .loop .at) .fits) (c .before .before .before .before .before .before .before .before .before .before .before .before .before .before .before .pre) .known
+element-copy-out-carry-operands-2 c =
+    let room = roomy _ _ _ _ _ _ _ _ _ _ _ _ _ _ _ _ (c .before .before .before .before .before .before .before .before .before .before .before .before .before .before .loop .inv) (c .before .before .before .before .before .before .before .before .before .before .make-room .ensures) in
+    here _ _ _ _ _ _ _ _ _ _ _ _ _ _ _ _ (room .1) (c .before .before .before .before .before .before .before .before .before .before .before .before .before .loop-test .taken) (c .before .before .before .before .before .before .before .shared-slice-known4 .given (c .before .before .before .before .before .before .before .before .before .before .before .before .before .before .loop .at) .fits) (c .before .before .before .before .before .before .before .before .before .before .before .before .before .before .before .before .before .before .before .pre) .known
+
+slice-aggregate-carry-operands : tie.Need-slice-aggregate-carry-operands Inv-loop μ-loop
+slice-aggregate-carry-operands c = search needs
 
 carry-operands-requires : tie.Need-carry-operands-requires Inv-loop μ-loop
 carry-operands-requires c κs =
-    let l = c .before .before .before .before .before .before .before .before .before .before .before .before .loop in
-    let g = c .before .before .before .before .before .before .before .before .before .before .before .before .before .before .before .before .before .pre in
-    (here _ _ _ _ _ _ _ _ _ _ _ _ _ _ (c .before .before .before .before .before .before .before .before .before .before .before .before .loop .inv) (c .before .before .before .before .before .before .before .before .before .before .before .loop-test .taken) (c .before .before .before .before .before .before .before .before .before .before .shared-slice-known4 .given (c .before .before .before .before .before .before .before .before .before .before .before .before .loop .at) .fits) (c .before .before .before .before .before .before .before .before .before .before .before .before .before .before .before .before .before .pre) .room, g .few, omega (arith, l .inv .small, l .inv .inside, g .few))
+    let room = roomy _ _ _ _ _ _ _ _ _ _ _ _ _ _ _ _ (c .before .before .before .before .before .before .before .before .before .before .before .before .before .before .before .before .loop .inv) (c .before .before .before .before .before .before .before .before .before .before .before .before .make-room .ensures) in
+    (here _ _ _ _ _ _ _ _ _ _ _ _ _ _ _ _ (room .1) (c .before .before .before .before .before .before .before .before .before .before .before .before .before .before .before .loop-test .taken) (c .before .before .before .before .before .before .before .before .before .shared-slice-known4 .given (c .before .before .before .before .before .before .before .before .before .before .before .before .before .before .before .before .loop .at) .fits) (c .before .before .before .before .before .before .before .before .before .before .before .before .before .before .before .before .before .before .before .before .before .pre) .room, c .before .before .before .before .before .before .before .before .before .before .before .before .before .before .before .before .before .before .before .before .before .pre .few, omega (arith, c .before .before .before .before .before .before .before .before .before .before .before .before .before .before .before .before .loop .inv .small, c .before .before .before .before .before .before .before .before .before .before .before .before .before .before .before .before .loop .inv .inside, c .before .before .before .before .before .before .before .before .before .before .before .before .before .before .before .before .before .before .before .before .before .pre .few))
 
 enum-known-r : tie.Need-enum-known-r Inv-loop μ-loop
 enum-known-r c = search needs
@@ -80,43 +102,64 @@ enum-known-r-2 : tie.Need-enum-known-r-2 Inv-loop μ-loop
 enum-known-r-2 c = search needs
 
 same-length-3 : tie.Need-same-length-3 Inv-loop μ-loop
-same-length-3 c = search needs
+same-length-3 c =
+    let room = roomy _ _ _ _ _ _ _ _ _ _ _ _ _ _ _ _ (c .before .before .before .before .before .before .before .before .before .before .before .before .before .before .before .before .before .before .before .before .before .loop .inv) (c .before .before .before .before .before .before .before .before .before .before .before .before .before .before .before .before .before .make-room .ensures) in
+    room .1 .same
 
 returns-3 : tie.Need-returns-3 Inv-loop μ-loop
-returns-3 c = bad _ _ _ _ _ _ _ _ _ _ _ _ _ _ (c .before .before .before .before .before .before .before .before .before .before .before .before .before .before .before .before .before .before .loop .inv) (c .before .before .before .before .before .before .before .before .before .before .before .before .before .before .before .before .before .loop-test .taken) (c .before .before .before .before .before .before .before .before .before .before .before .before .before .before .before .before .shared-slice-known4 .given (c .before .before .before .before .before .before .before .before .before .before .before .before .before .before .before .before .before .before .loop .at) .fits) (c .before .before .before .before .before .before .before .before .before .before .before .before .before .if2 .left) _ _ (c .before .before .before .before .before .before .before .before .before .before .before .put-byte .ensures) _ _ (c .before .before .before .before .before .carry-operands .ensures) _ _ (c .before .r2 .given .1)
+returns-3 c =
+    let room = roomy _ _ _ _ _ _ _ _ _ _ _ _ _ _ _ _ (c .before .before .before .before .before .before .before .before .before .before .before .before .before .before .before .before .before .before .before .before .before .loop .inv) (c .before .before .before .before .before .before .before .before .before .before .before .before .before .before .before .before .before .make-room .ensures) in
+    bad _ _ _ _ _ _ _ _ _ _ _ _ _ _ _ _ (room .1) (c .before .before .before .before .before .before .before .before .before .before .before .before .before .before .before .before .before .before .before .before .loop-test .taken) (c .before .before .before .before .before .before .before .before .before .before .before .before .before .before .shared-slice-known4 .given (c .before .before .before .before .before .before .before .before .before .before .before .before .before .before .before .before .before .before .before .before .before .loop .at) .fits) (c .before .before .before .before .before .before .before .before .before .before .before .if2 .left) _ _ (c .before .before .before .before .before .before .before .before .before .put-word .ensures) _ _ (c .before .before .before .before .carry-operands .ensures) _ _ (c .before .r2 .given .1)
 
 array-read-new : tie.Need-array-read-new Inv-loop μ-loop
 array-read-new c = search needs
 
 add-new : tie.Need-add-new Inv-loop μ-loop
 add-new c =
-    let l = c .before .before .before .before .before .before .before .before .before .before .before .before .before .before .before .before .before .before .before .loop in
-    let g = c .before .before .before .before .before .before .before .before .before .before .before .before .before .before .before .before .before .before .before .before .before .before .before .before .pre in
-    omega (arith, l .inv .small, l .inv .inside, g .few, here _ _ _ _ _ _ _ _ _ _ _ _ _ _ (c .before .before .before .before .before .before .before .before .before .before .before .before .before .before .before .before .before .before .before .loop .inv) (c .before .before .before .before .before .before .before .before .before .before .before .before .before .before .before .before .before .before .loop-test .taken) (c .before .before .before .before .before .before .before .before .before .before .before .before .before .before .before .before .before .shared-slice-known4 .given (c .before .before .before .before .before .before .before .before .before .before .before .before .before .before .before .before .before .before .before .loop .at) .fits) (c .before .before .before .before .before .before .before .before .before .before .before .before .before .before .before .before .before .before .before .before .before .before .before .before .pre))
+    let room = roomy _ _ _ _ _ _ _ _ _ _ _ _ _ _ _ _ (c .before .before .before .before .before .before .before .before .before .before .before .before .before .before .before .before .before .before .before .before .before .before .loop .inv) (c .before .before .before .before .before .before .before .before .before .before .before .before .before .before .before .before .before .before .make-room .ensures) in
+    omega (arith, c .before .before .before .before .before .before .before .before .before .before .before .before .before .before .before .before .before .before .before .before .before .before .loop .inv .small, c .before .before .before .before .before .before .before .before .before .before .before .before .before .before .before .before .before .before .before .before .before .before .loop .inv .inside, c .before .before .before .before .before .before .before .before .before .before .before .before .before .before .before .before .before .before .before .before .before .before .before .before .before .before .before .pre .few, here _ _ _ _ _ _ _ _ _ _ _ _ _ _ _ _ (room .1) (c .before .before .before .before .before .before .before .before .before .before .before .before .before .before .before .before .before .before .before .before .before .loop-test .taken) (c .before .before .before .before .before .before .before .before .before .before .before .before .before .before .before .shared-slice-known4 .given (c .before .before .before .before .before .before .before .before .before .before .before .before .before .before .before .before .before .before .before .before .before .before .loop .at) .fits) (c .before .before .before .before .before .before .before .before .before .before .before .before .before .before .before .before .before .before .before .before .before .before .before .before .before .before .before .pre))
 
 array-read-at : tie.Need-array-read-at Inv-loop μ-loop
 array-read-at c = search needs
 
 add-at : tie.Need-add-at Inv-loop μ-loop
-add-at c = omega (arith, here _ _ _ _ _ _ _ _ _ _ _ _ _ _ (c .before .before .before .before .before .before .before .before .before .before .before .before .before .before .before .before .before .before .before .loop .inv) (c .before .before .before .before .before .before .before .before .before .before .before .before .before .before .before .before .before .before .loop-test .taken) (c .before .before .before .before .before .before .before .before .before .before .before .before .before .before .before .before .before .shared-slice-known4 .given (c .before .before .before .before .before .before .before .before .before .before .before .before .before .before .before .before .before .before .before .loop .at) .fits) (c .before .before .before .before .before .before .before .before .before .before .before .before .before .before .before .before .before .before .before .before .before .before .before .before .pre))
+add-at c =
+    let room = roomy _ _ _ _ _ _ _ _ _ _ _ _ _ _ _ _ (c .before .before .before .before .before .before .before .before .before .before .before .before .before .before .before .before .before .before .before .before .before .before .loop .inv) (c .before .before .before .before .before .before .before .before .before .before .before .before .before .before .before .before .before .before .make-room .ensures) in
+    omega (arith, c .before .before .before .before .before .before .before .before .before .before .before .before .before .before .before .before .before .before .before .before .before .before .before .before .before .before .before .pre .few, here _ _ _ _ _ _ _ _ _ _ _ _ _ _ _ _ (room .1) (c .before .before .before .before .before .before .before .before .before .before .before .before .before .before .before .before .before .before .before .before .before .loop-test .taken) (c .before .before .before .before .before .before .before .before .before .before .before .before .before .before .before .shared-slice-known4 .given (c .before .before .before .before .before .before .before .before .before .before .before .before .before .before .before .before .before .before .before .before .before .before .loop .at) .fits) (c .before .before .before .before .before .before .before .before .before .before .before .before .before .before .before .before .before .before .before .before .before .before .before .before .before .before .before .pre))
 
 add-i : tie.Need-add-i Inv-loop μ-loop
-add-i c = search needs
+add-i c = omega (arith, c .before .before .before .before .before .before .before .before .before .before .before .before .before .before .before .before .before .before .before .before .before .before .loop .inv .below, c .before .before .before .before .before .before .before .before .before .before .before .before .before .before .before .before .before .before .before .before .before .before .loop .inv .inside, c .before .before .before .before .before .before .before .before .before .before .before .before .before .before .before .before .before .before .before .before .before .before .before .before .before .before .before .pre .few)
 
 loop-less : tie.Need-loop-less Inv-loop μ-loop
-loop-less c = omega (arith, here _ _ _ _ _ _ _ _ _ _ _ _ _ _ (c .before .before .before .before .before .before .before .before .before .before .before .before .before .before .before .before .before .before .before .loop .inv) (c .before .before .before .before .before .before .before .before .before .before .before .before .before .before .before .before .before .before .loop-test .taken) (c .before .before .before .before .before .before .before .before .before .before .before .before .before .before .before .before .before .shared-slice-known4 .given (c .before .before .before .before .before .before .before .before .before .before .before .before .before .before .before .before .before .before .before .loop .at) .fits) (c .before .before .before .before .before .before .before .before .before .before .before .before .before .before .before .before .before .before .before .before .before .before .before .before .pre))
+loop-less c =
+    let room = roomy _ _ _ _ _ _ _ _ _ _ _ _ _ _ _ _ (c .before .before .before .before .before .before .before .before .before .before .before .before .before .before .before .before .before .before .before .before .before .before .loop .inv) (c .before .before .before .before .before .before .before .before .before .before .before .before .before .before .before .before .before .before .make-room .ensures) in
+    omega (arith, here _ _ _ _ _ _ _ _ _ _ _ _ _ _ _ _ (room .1) (c .before .before .before .before .before .before .before .before .before .before .before .before .before .before .before .before .before .before .before .before .before .loop-test .taken) (c .before .before .before .before .before .before .before .before .before .before .before .before .before .before .before .shared-slice-known4 .given (c .before .before .before .before .before .before .before .before .before .before .before .before .before .before .before .before .before .before .before .before .before .before .loop .at) .fits) (c .before .before .before .before .before .before .before .before .before .before .before .before .before .before .before .before .before .before .before .before .before .before .before .before .before .before .before .pre))
 
 loop-again : tie.Need-loop-again Inv-loop μ-loop
-loop-again c = turn _ _ _ _ _ _ _ _ _ _ _ _ _ _ (c .before .before .before .before .before .before .before .before .before .before .before .before .before .before .before .before .before .before .before .loop .inv) (c .before .before .before .before .before .before .before .before .before .before .before .before .before .before .before .before .before .before .loop-test .taken) (c .before .before .before .before .before .before .before .before .before .before .before .before .before .before .before .before .before .shared-slice-known4 .given (c .before .before .before .before .before .before .before .before .before .before .before .before .before .before .before .before .before .before .before .loop .at) .fits) (c .before .before .before .before .before .before .before .before .before .before .before .before .before .before .if2 .left) _ _ (c .before .before .before .before .before .before .before .before .before .before .before .before .put-byte .ensures) _ _ (c .before .before .before .before .before .before .carry-operands .ensures) (c .before .before .before .before .before .before .before .before .before .before .before .before .before .before .before .before .before .before .before .before .before .before .before .before .pre) (search needs) _ _ (c .before .before .r .given .1) _ (c .keep-first .ensures)
+loop-again c =
+    let room = roomy _ _ _ _ _ _ _ _ _ _ _ _ _ _ _ _ (c .before .before .before .before .before .before .before .before .before .before .before .before .before .before .before .before .before .before .before .before .before .before .loop .inv) (c .before .before .before .before .before .before .before .before .before .before .before .before .before .before .before .before .before .before .make-room .ensures) in
+    turn _ _ _ _ _ _ _ _ _ _ _ _ _ _ _ _ (room .1) (c .before .before .before .before .before .before .before .before .before .before .before .before .before .before .before .before .before .before .before .before .before .loop-test .taken) (c .before .before .before .before .before .before .before .before .before .before .before .before .before .before .before .shared-slice-known4 .given (c .before .before .before .before .before .before .before .before .before .before .before .before .before .before .before .before .before .before .before .before .before .before .loop .at) .fits) (c .before .before .before .before .before .before .before .before .before .before .before .before .if2 .left) _ _ (c .before .before .before .before .before .before .before .before .before .before .put-word .ensures) _ _ (c .before .before .before .before .before .carry-operands .ensures) (c .before .before .before .before .before .before .before .before .before .before .before .before .before .before .before .before .before .before .before .before .before .before .before .before .before .before .before .pre) (room .0) (search needs) _ _ (c .before .before .r .given .1) _ (c .keep-first .ensures)
+
+sub-put-bytes : tie.Need-sub-put-bytes Inv-loop μ-loop
+sub-put-bytes c = search needs
+
+part-put-bytes-start : tie.Need-part-put-bytes-start Inv-loop μ-loop
+part-put-bytes-start c = search needs
+
+part-put-bytes-end : tie.Need-part-put-bytes-end Inv-loop μ-loop
+part-put-bytes-end c = search needs
+
+put-bytes-requires : tie.Need-put-bytes-requires Inv-loop μ-loop
+put-bytes-requires c κs = search needs
 
 ended-requires : tie.Need-ended-requires Inv-loop μ-loop
 ended-requires c κs = search needs
 
 same-length-4 : tie.Need-same-length-4 Inv-loop μ-loop
-same-length-4 c = search needs
+same-length-4 c = kept-length (c .before .before .before .put-bytes .ensures) ∙ c .before .before .before .before .before .before .before .before .loop .inv .same
 
 returns-4 : tie.Need-returns-4 Inv-loop μ-loop
-returns-4 c = rw (c .ended .ensures) (all-done _ _ _ _ _ _ _ _ _ _ _ _ _ _ (c .before .before .loop .inv) (c .before .loop-test .left))
+returns-4 c = rw (c .ended .ensures) (all-done _ _ _ _ _ _ _ _ _ _ _ _ _ _ _ _ (c .before .before .before .before .before .before .before .before .loop .inv) (c .before .before .before .before .before .before .before .loop-test .left) (simp unary-clauses at (c .before .before .before .put-bytes .ensures)))
 
 pub carry-instructions-spec : {M : Type 1} → statement M
 carry-instructions-spec =
@@ -125,6 +168,8 @@ carry-instructions-spec =
     Inv-loop
     μ-loop
     loop-holds
+    slice-aggregate-make-room
+    make-room-requires
     shared-slice-read-op
     cast-op
     mul-row
@@ -135,12 +180,13 @@ carry-instructions-spec =
     same-length-2
     returns-2
     array-read-opcode
-    cast-put-byte
-    put-byte-requires
+    slice-aggregate-put-word
+    put-word-requires
     mul-carry-operands
     element-copy-out-carry-operands
     mul-carry-operands-2
     element-copy-out-carry-operands-2
+    slice-aggregate-carry-operands
     carry-operands-requires
     enum-known-r
     keep-first-requires
@@ -154,6 +200,10 @@ carry-instructions-spec =
     add-i
     loop-less
     loop-again
+    sub-put-bytes
+    part-put-bytes-start
+    part-put-bytes-end
+    put-bytes-requires
     ended-requires
     same-length-4
     returns-4)

@@ -2,7 +2,6 @@ use mathlib.Core.Path.{sym, _∙_}
 use Rattle.lists.specs.Scan.{part}
 use Rattle.spec_numbers.specs.LittleEndian.{le}
 use Rattle.spec_sheet.specs.Types.{widthOf}
-use Rattle.operand.proofs.ValueLaws.{read-bits, read-below}
 use Rattle.carry.proofs.CarriedLaws.{same-near}
 use borrow.Author.Needs.{needs}
 use Rattle.carry.proofs.operand_carry.carry_operand.Statement.{statement}
@@ -21,28 +20,19 @@ returns : tie.Need-returns
 returns c = λ x i q m t here.
     let a = c .before .before .before .before .before .before .before .before .before .before .args in
     let copied = c .before .before .copy-operand .ensures in
-    same-near x i (a .at) q (a .new) (a .c) (a .d) (le (part (a .s .now) (a .p) (widthOf (a .c)))) (a .out .now) (a .k) _ (sym (c .before .before .before .before .before .stays-same .ensures) ∙ c .before .before .before .before .if1 .taken) (copied .1) _ (copied .0)
+    same-near x i (a .at) q (a .new) (a .c) (a .d) (le (part (a .s .now) (a .p) (widthOf (a .c)))) (a .block .now) (a .k) _ (sym (c .before .before .before .before .before .stays-same .ensures) ∙ c .before .before .before .before .if1 .taken) (copied .1) _ (copied .0)
 
-read-operand-requires : tie.Need-read-operand-requires
-read-operand-requires c κs = search needs
-
-bits-of-requires : tie.Need-bits-of-requires
-bits-of-requires c κs = search needs
+read-bits-requires : tie.Need-read-bits-requires
+read-bits-requires c κs = search needs
 
 carry-value-requires : tie.Need-carry-value-requires
-carry-value-requires c κs =
-    let a = c .before .before .before .before .before .before .before .before .before in
-    let o = c .before .before .read-operand .ensures in
-    (a .pre .1, a .pre .2, read-below _ (a .args .s .now) (a .args .p) _ _ (o .0) (o .1) (c .before .bits-of .ensures))
+carry-value-requires c κs = search needs
 
 same-length-2 : tie.Need-same-length-2
 same-length-2 c = search needs
 
 returns-2 : tie.Need-returns-2
-returns-2 c = λ x i q m t here.
-    let a = c .before .before .before .before .before .before .before .before .before .before .before .before in
-    let o = c .before .before .before .before .before .read-operand .ensures in
-    rw (sym (read-bits _ (a .args .s .now) (a .args .p) _ _ (o .0) (o .1) (c .before .before .before .before .bits-of .ensures))) (c .before .before .carry-value .ensures x i q m t here)
+returns-2 c = λ x i q m t here. rw (sym (c .before .before .before .before .read-bits .ensures .0)) (c .before .before .carry-value .ensures x i q m t here)
 
 pub carry-operand-spec : {M : Type 1} → statement M
 carry-operand-spec =
@@ -52,8 +42,7 @@ carry-operand-spec =
     copy-operand-requires
     same-length
     returns
-    read-operand-requires
-    bits-of-requires
+    read-bits-requires
     carry-value-requires
     same-length-2
     returns-2)

@@ -12,7 +12,7 @@ enum-known-checked c = search needs
 returns : tie.Need-returns
 returns c = λ x i q m t here.
     let a = c .before .before .before .before .before .before .before .args in
-    value-refused x i (a .at) q (a .new) (a .c) (a .d) (a .bits) (a .out .now) (a .k) (a .out .now) _ (λ rest. c .before .before .before .check-operand .ensures x i q rest m t) _ (c .before .checked .given .1)
+    value-refused x i (a .at) q (a .new) (a .c) (a .d) (a .bits) (a .block .now) (a .k) (a .block .now) _ (λ rest. c .before .before .before .check-operand .ensures x i q rest m t) _ (c .before .checked .given .1)
 
 enum-told : tie.Need-enum-told
 enum-told c = search needs
@@ -32,8 +32,8 @@ same-length c = search needs
 returns-2 : tie.Need-returns-2
 returns-2 c = λ x i q m t here.
     let a = c .before .before .before .before .before .before .before .before .before .before .before .before .before .args in
-    let good = value-good x i (a .at) q (a .new) (a .c) (a .d) (a .bits) (a .out .now) (a .k) (a .out .now) _ (λ rest. c .before .before .before .before .before .before .before .before .before .check-operand .ensures x i q rest m t) (c .before .before .before .before .before .before .before .enum-told .given .1) in
-    value-near x i (a .at) q (a .new) (a .c) (a .d) (a .bits) (a .out .now) (a .k) _ good _ (rw (c .before .wrote .given .1) at (c .before .before .before .before .before .put-operand .ensures x i q m t here good))
+    let good = value-good x i (a .at) q (a .new) (a .c) (a .d) (a .bits) (a .block .now) (a .k) (a .block .now) _ (λ rest. c .before .before .before .before .before .before .before .before .before .check-operand .ensures x i q rest m t) (c .before .before .before .before .before .before .before .enum-told .given .1) in
+    value-near x i (a .at) q (a .new) (a .c) (a .d) (a .bits) (a .block .now) (a .k) _ good _ (rw (c .before .wrote .given .1) at (c .before .before .before .before .before .put-operand .ensures x i q m t here good))
 
 same-length-2 : tie.Need-same-length-2
 same-length-2 c = search needs
@@ -41,8 +41,8 @@ same-length-2 c = search needs
 returns-3 : tie.Need-returns-3
 returns-3 c = λ x i q m t here.
     let a = c .before .before .before .before .before .before .before .before .before .before .before .before .args in
-    let good = value-good x i (a .at) q (a .new) (a .c) (a .d) (a .bits) (a .out .now) (a .k) (a .out .now) _ (λ rest. c .before .before .before .before .before .before .before .before .check-operand .ensures x i q rest m t) (c .before .before .before .before .before .before .enum-told .given .1) in
-    value-far x i (a .at) q (a .new) (a .c) (a .d) (a .bits) (a .out .now) (a .k) _ good _ (rw (c .enum-told2 .given .1) at (c .before .before .before .before .put-operand .ensures x i q m t here good))
+    let good = value-good x i (a .at) q (a .new) (a .c) (a .d) (a .bits) (a .block .now) (a .k) (a .block .now) _ (λ rest. c .before .before .before .before .before .before .before .before .check-operand .ensures x i q rest m t) (c .before .before .before .before .before .before .enum-told .given .1) in
+    value-far x i (a .at) q (a .new) (a .c) (a .d) (a .bits) (a .block .now) (a .k) _ good (rw (c .enum-told2 .given .1) at (c .before .before .before .before .put-operand .ensures x i q m t here good))
 
 pub carry-value-spec : {M : Type 1} → statement M
 carry-value-spec =

@@ -1,10 +1,10 @@
-use Rattle.listing.specs.Parts.RoomMade.{gone, stays}
+use Rattle.slices.specs.Block.RoomMade.{gone, stays}
 use native.Mathlib.Numerals.{unary-clauses}
 use native.Mathlib.Omega.{arith}
 use mathlib.Core.Path.{refl}
 use borrow.Author.Needs.{needs}
-use Rattle.listing.proofs.body_lines.make_room.Statement.{statement}
-use Rattle.listing.proofs.body_lines.make_room.Tie as tie
+use Rattle.slices.proofs.block.make_room.Statement.{statement}
+use Rattle.slices.proofs.block.make_room.Tie as tie
 
 sub-put-bytes : tie.Need-sub-put-bytes
 sub-put-bytes c = search needs

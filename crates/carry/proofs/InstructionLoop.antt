@@ -36,6 +36,7 @@ use Rattle.spec_carry.specs.Cases.{Case, unlessCase}
 use Rattle.spec_carry.specs.Passes.{Carrying, opcodeInto, newOpcode, oldRow, newRow, movedFrom, operandsCases, farCases, newOperands, firstPass, secondPass, newBytes}
 use Rattle.spec_carry.proofs.ResultLaws.{operands-length}
 use Rattle.carry.specs.Opcodes.{stateOf}
+use Rattle.carry.specs.Plans.{Planning, Plans}
 use Rattle.carry.specs.Ready.{Ready, carryingIn}
 use Rattle.carry.specs.Carried.{OperandsCarried, keepFirst, endedWith, BytesCarried, blockSize, instructionStart}
 use Rattle.carry.specs.Carried.OperandsCarried.{all-near, some-far, some-refused}
@@ -307,6 +308,10 @@ module _ (types types₂ rows : List (List ℕ)) (last : ℕ) (s map ids out₀ 
           next = omega (arith, length-here, instruction .room);
           most = g .lengths op u (instruction .small);
         }
+
+        -- the plans of its operands
+        abbrev pub planning : (plans : List (List ℕ)) → Plans types types₂ rows last plans → Planning (getD plans op []) s at
+        planning plans p = record { row = old; row′ = row′; planned = p op u (instruction .small); room = instruction .room }
 
         -- the first pass goes on from here
         from-here : (cs : List Case) (rest : Outcome) → unlessCase (firstPass (carryingIn g) 0 (g .records) ++ cs) rest

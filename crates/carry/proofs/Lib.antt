@@ -5,8 +5,9 @@ pub mod PlaceLoop
 pub mod TargetLaws
 pub mod CheckLaws
 pub mod RowLaws
-pub mod CarriedLaws
+pub mod PlanLaws
 pub mod WriteLaws
+pub mod CarriedLaws
 pub mod OperandLoop
 pub mod InstructionLoop
 pub mod InputLaws

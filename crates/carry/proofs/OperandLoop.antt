@@ -32,6 +32,7 @@ use Rattle.spec_carry.proofs.CaseLaws.Passed.{none, one}
 use Rattle.carry.specs.Ids.{Translated}
 use Rattle.carry.specs.Places.{Mapped}
 use Rattle.carry.specs.Ready.{ZerosBehind}
+use Rattle.carry.specs.Plans.{planOf, oldWidth, IsPlan, Planning}
 use Rattle.carry.specs.Carried.{OperandCarried, firstFar, OperandsCarried}
 use Rattle.carry.specs.Carried.OperandCarried.{is-near, is-far, is-refused}
 use Rattle.carry.specs.Carried.OperandsCarried.{all-near, some-far, some-refused}
@@ -39,6 +40,7 @@ use Rattle.carry.specs.declared.operand_carry.Carried.{Carried}
 use Rattle.carry.specs.declared.operand_carry.Carried.the-variants.{Done, Refused}
 use Rattle.carry.specs.declared.instructions.Operands.{Operands}
 use Rattle.carry.specs.declared.instructions.Operands.the-variants as answer
+use Rattle.carry.proofs.PlanLaws.{old-is, plan-none, none-planned, plan-at}
 use Rattle.carry.proofs.RowLaws.{unless-then, same-end, zeros-passed}
 
 -- where the second sheet has no operand, none is too far, and nothing is written
@@ -155,6 +157,24 @@ module _ {x : Carrying} {i at new : ℕ} {row row′ s out₀ : List ℕ} {k : �
     one-refused v out′ (is-refused f e g) =
         let z : f ≡ v = cc e in
         some-refused v q refl (λ more rest. operand-first more rest ∙ (g _ ∙ ap (λ (y : OperandFault). refusedWith (BadOperand y i q)) z))
+
+-- the j-th plan of an instruction
+module _ {plans s : List ℕ} {at : ℕ} (g : Planning plans s at) (j : ℕ) where
+  pub plan-here : getD plans j 0 ≡ planOf (getD (g .row) j 0) (getD (g .row′) j 0)
+  plan-here = ap (λ (l : List ℕ). getD l j 0) (g .planned .are) ∙ plan-at (g .row) (g .row′) j
+
+  pub code-none : getD plans j 0 ≡ 0 → getD (g .row) j 0 ≡ 0
+  code-none e = plan-none _ _ (sym plan-here ∙ e)
+
+  module _ (n : getD plans j 0 ≡ 0 → ⊥) where
+    pub code-some : getD (g .row) j 0 ≡ 0 → ⊥
+    code-some z = n (plan-here ∙ rw z (none-planned (getD (g .row′) j 0)))
+
+    pub is-plan : IsPlan (getD plans j 0)
+    is-plan = record { c = getD (g .row) j 0; d = getD (g .row′) j 0; some = code-some; is = plan-here }
+
+    pub width-here : oldWidth (getD plans j 0) ≡ widthOf (getD (g .row) j 0)
+    width-here = old-is _ _ _ code-some plan-here
 
 -- those up to j were carried
 pub record Going (row row′ s : List ℕ) (at new : ℕ) (map ids out₀ : List ℕ) (k : ℕ) (out : List ℕ) (n far p j : ℕ) : Type 0 where

@@ -12,7 +12,7 @@ use Rattle.spec_sheet.specs.Types.{widthOf}
 use Rattle.spec_carry.specs.Meaning.{reaches, firstPlace}
 use Rattle.spec_carry.specs.Passes.{Carrying, oldTarget}
 use Rattle.carry.specs.Places.{placeMark, Mapped}
-use Rattle.carry.specs.Checks.{targetMark}
+use Rattle.carry.specs.NewBits.{targetMark}
 
 -- a search by tests that agree
 first-same : (p q : ℕ → Bool) → ((n : ℕ) → p n ≡ q n) → (k : ℕ) (xs : List ℕ) → firstPlace p k xs ≡ firstPlace q k xs

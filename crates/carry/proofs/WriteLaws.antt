@@ -10,23 +10,19 @@ use borrow.Author.Tests.{le-leb, lt-leb, ne-eqb, ltb-true}
 use Rattle.lists.specs.Choice.{pick}
 use Rattle.lists.specs.Found.{Found}
 use Rattle.lists.specs.Found.Found.{found, missing}
-use Rattle.lists.specs.Write.{ByWords}
 use Rattle.lists.proofs.Tests.{by-test, by-leb, by-eqb, both-no-left, both-no-right, true-not-false}
 use Rattle.answers.specs.Outcome.{Outcome, produced}
-use Rattle.spec_numbers.specs.LittleEndian.{leBytes}
 use Rattle.spec_sheet.specs.Types.{widthOf, familyOf}
-use Rattle.spec_sheet.proofs.TypeLaws.{family-address}
+use Rattle.spec_sheet.proofs.TypeLaws.{by-address}
 use Rattle.spec_carry.specs.Cases.{Case, unlessCase}
 use Rattle.spec_carry.specs.Passes.{Carrying, orZero, near, newId, newPlace, oldTarget, operandCases, distanceBits, newBits}
 use Rattle.spec_carry.proofs.CaseLaws.{Passed, result-passed}
 use Rattle.spec_carry.proofs.ValueLaws.{Good, good-operand, is-found}
 use Rattle.carry.specs.Ids.{idMark, Translated}
 use Rattle.carry.specs.Places.{placeMark, Mapped}
-use Rattle.carry.specs.Checks.{targetMark}
-use Rattle.carry.specs.Writes.{distanceIn, bitsIn, isFar, OperandPut}
-use Rattle.carry.specs.Writes.OperandPut.{wrote, far}
-use Rattle.carry.specs.declared.operand_write.NewBits.the-variants as answer
-use Rattle.carry.specs.declared.operand_write.Wrote.the-variants.{To, Far}
+use Rattle.carry.specs.NewBits.{targetMark, distanceInto, isFar}
+use Rattle.carry.specs.declared.new_bits.NewBits.{NewBits}
+use Rattle.carry.specs.declared.new_bits.NewBits.the-variants as answer
 use Rattle.carry.proofs.TargetLaws.{target-mark}
 
 -- cases that change no outcome: none holds
@@ -65,32 +61,37 @@ module _ (at place : ℕ) where
   unfolding distanceBits
   distance-back w h = rw (lt-leb at place h)
 
-  -- in an Addr32, and in an Addr8
-  module _ (d : ℕ) where
-    pub in-32 : (d ≡ 9 → ⊥) → familyOf d ≡ 4 → distanceIn d at place ≡ answer.Bits (distanceBits 4 at place)
-    unfolding widthOf
-    in-32 n f =
-        let r = family-address d f in
-        let e : d ≡ 10 = omega (arith, r .0, r .1, n) in
-        rw e
+  -- in an Addr of four bytes, and of one
+  module _ (w : ℕ) where
+    pub in-four : (w ≡ 1 → ⊥) → distanceInto w at place ≡ answer.Bits (distanceBits w at place)
+    in-four n = rw (ne-eqb w 1 n)
 
-    pub in-8 : d ≡ 9 → near at place ≡ true → distanceIn d at place ≡ answer.Bits (distanceBits 1 at place)
-    unfolding widthOf
-    in-8 e n = rw (e, n)
+    pub in-one : w ≡ 1 → near at place ≡ true → distanceInto w at place ≡ answer.Bits (distanceBits 1 at place)
+    in-one e n = rw (e, n)
 
-    pub past-8 : d ≡ 9 → near at place ≡ false → distanceIn d at place ≡ answer.Far
-    past-8 e n = rw (e, n)
+    pub past-one : w ≡ 1 → near at place ≡ false → distanceInto w at place ≡ answer.Far
+    past-one e n = rw (e, n)
 
--- an operand by its family
+-- an operand by its family: a mark is 1 more than what it stands for
+abbrev pub bitsIn : ℕ → ℕ → ℕ → ℕ → ℕ → List ℕ → List ℕ → NewBits
+bitsIn c d at new bits map ids =
+    pick (eqb (familyOf c) 3) (answer.Bits (getD ids bits 0 - 1))
+    (pick (eqb (familyOf c) 4) (distanceInto (widthOf d) new (targetMark (widthOf c) at bits map - 1)) (answer.Bits bits))
+
 module _ (c d at new bits : ℕ) (map ids : List ℕ) where
   pub string-bits : familyOf c ≡ 3 → bitsIn c d at new bits map ids ≡ answer.Bits (getD ids bits 0 - 1)
   string-bits f = rw f
 
-  pub target-bits : familyOf c ≡ 4 → bitsIn c d at new bits map ids ≡ distanceIn d new (targetMark (widthOf c) at bits map - 1)
+  pub target-bits : familyOf c ≡ 4 → bitsIn c d at new bits map ids ≡ distanceInto (widthOf d) new (targetMark (widthOf c) at bits map - 1)
   target-bits f = rw f
 
   pub rest-bits : (familyOf c ≡ 3 → ⊥) → (familyOf c ≡ 4 → ⊥) → bitsIn c d at new bits map ids ≡ answer.Bits bits
   rest-bits n o = rw (ne-eqb (familyOf c) 3 n, ne-eqb (familyOf c) 4 o)
+
+-- the Addr of one byte
+addr-one : (d : ℕ) → familyOf d ≡ 4 → eqb (widthOf d) 1 ≡ eqb d 9
+unfolding widthOf
+addr-one d f = by-address (λ d. eqb (widthOf d) 1 ≡ eqb d 9) d f refl refl
 
 -- a mark less 1
 id-marked : (f : Found) → idMark f - 1 ≡ orZero f
@@ -137,7 +138,7 @@ module _ (x : Carrying) (i at q c d bits : ℕ) (p : Passed (operandCases x i at
     of-target f =
         let e : targetMark (widthOf c) at bits map - 1 ≡ newPlace x at c bits =
         ap (λ (n : ℕ). n - 1) (target-mark x map c at bits m) ∙ is-found (oldTarget x at c bits) (checked .aimed f) (λ k g. place-marked (x .moved) (oldTarget x at c bits) k g) in
-        rw (f, e, here) refl
+        rw (f, e, here, addr-one d (sym same-family ∙ f)) refl
 
     of-rest : (familyOf c ≡ 3 → ⊥) → (familyOf c ≡ 4 → ⊥) → goal
     unfolding newBits
@@ -146,18 +147,17 @@ module _ (x : Carrying) (i at q c d bits : ℕ) (p : Passed (operandCases x i at
     pub bits-are : goal
     bits-are = by-eqb (familyOf c) 3 of-string λ n. by-eqb (familyOf c) 4 of-target λ o. of-rest n o
 
-    -- the bits as they were answered: they are written, or 8 holds
-    pub put-bits : (n : ℕ) (out : List ℕ) (k : ℕ) (out′ : List ℕ) (k′ : ℕ) → bitsIn c d at new bits map ids ≡ answer.Bits n → ByWords out k (leBytes (widthOf d) n) out′ k′
-        → OperandPut x i at new c d bits out k out′ (To k′)
-    put-bits n out k out′ k′ e put =
+    -- the bits as they were answered, or 8
+    pub bits-near : (n : ℕ) → bitsIn c d at new bits map ids ≡ answer.Bits n → (isFar x i at c d bits ≡ false) × (n ≡ newBits x at new c d bits)
+    bits-near n e =
         by-test (isFar x i at c d bits)
         (λ h. absurd (let y : answer.Far ≡ answer.Bits n = rw h at (sym bits-are ∙ e) in let z : _≡_ {A = ℕ} 0 1 = cc y in omega arith))
         (λ h. let y : answer.Bits (newBits x at new c d bits) ≡ answer.Bits n = rw h at (sym bits-are ∙ e) in
         let z : n ≡ newBits x at new c d bits = cc y in
-        wrote k′ refl h (rw z at put))
+        (h, z))
 
-    pub put-far : (out : List ℕ) (k : ℕ) (out′ : List ℕ) → bitsIn c d at new bits map ids ≡ answer.Far → OperandPut x i at new c d bits out k out′ Far
-    put-far out k out′ e =
+    pub bits-far : bitsIn c d at new bits map ids ≡ answer.Far → isFar x i at c d bits ≡ true
+    bits-far e =
         by-test (isFar x i at c d bits)
-        (λ h. far refl h)
+        (λ h. h)
         (λ h. absurd (let y : answer.Bits (newBits x at new c d bits) ≡ answer.Far = rw h at (sym bits-are ∙ e) in let z : _≡_ {A = ℕ} 0 1 = cc y in omega arith))

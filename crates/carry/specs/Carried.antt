@@ -1,11 +1,11 @@
 -- What carrying answers and writes of one operand, of the operands of an instruction and of all instructions: both passes of
 -- document 01 at once. Assumes nothing.
 use mathlib.Core.Path.{_≡_}
-use mathlib.Core.Bool.{Bool, true, false, not}
+use mathlib.Core.Bool.{Bool, true, false}
 use mathlib.Core.List.{List, _++_}
 use Prim.Native.Nat.{ℕ, suc, _+_, _≤_}
 use lib.Dec.{eqb}
-use Rattle.lists.specs.Choice.{pick, both}
+use Rattle.lists.specs.Choice.{pick}
 use Rattle.lists.specs.Write.{Put, ByWords}
 use Rattle.answers.specs.Outcome.{Outcome}
 use Rattle.answers.specs.Outcome.Outcome.{refusedWith}
@@ -14,10 +14,10 @@ use Rattle.answers.specs.declared.refusal.OperandFault.the-variants.{Distance}
 use Rattle.answers.specs.declared.refusal.Refusal.{Refusal}
 use Rattle.answers.specs.declared.refusal.Refusal.the-variants.{BadOperand}
 use Rattle.spec_numbers.specs.LittleEndian.{leBytes}
-use Rattle.spec_sheet.specs.Types.{widthOf, familyOf, stringFamily, addrFamily}
+use Rattle.spec_sheet.specs.Types.{widthOf}
 use Rattle.spec_carry.specs.Cases.{Case, unlessCase}
 use Rattle.spec_carry.specs.Passes.{Carrying, operandCases, operandsCases, farCases, firstPass, secondPass, newBits, newOperands, newBytes}
-use Rattle.carry.specs.Writes.{isFar}
+use Rattle.carry.specs.NewBits.{isFar}
 use Rattle.carry.specs.declared.operand_carry.Carried.{Carried}
 use Rattle.carry.specs.declared.operand_carry.Carried.the-variants as operand
 use Rattle.carry.specs.declared.instructions.Operands.{Operands}
@@ -25,10 +25,6 @@ use Rattle.carry.specs.declared.instructions.Operands.the-variants as op
 use Rattle.carry.specs.declared.instructions.Bytes.{Bytes}
 use Rattle.carry.specs.declared.instructions.Bytes.the-variants as bytes
 use Rattle.carry.specs.declared.instructions.Far.{Far}
-
--- an operand of type c under the first sheet and d under the second keeps its bytes: it is no string id and no distance
-abbrev pub stays : ℕ → ℕ → Bool
-stays c d = both (eqb c d) (both (not (eqb (familyOf c) stringFamily)) (not (eqb (familyOf c) addrFamily)))
 
 -- the q-th operand of the instruction i passes the first pass, and is written into a block or too far in the second; or the first
 -- pass refuses it

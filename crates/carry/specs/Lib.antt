@@ -1,9 +1,9 @@
 pub mod Opcodes
 pub mod Ids
 pub mod Places
-pub mod Checks
+pub mod Plans
 pub mod Ready
-pub mod Writes
+pub mod NewBits
 pub mod Carried
 pub mod Inputs
 pub mod Prepared

@@ -12,6 +12,7 @@ use Rattle.spec_carry.specs.Carry.{carrying}
 use Rattle.carry.specs.Opcodes.{OpcodeRows, NewOpcodes, NewLengths}
 use Rattle.carry.specs.Ids.{Translated}
 use Rattle.carry.specs.Places.{Mapped}
+use Rattle.carry.specs.Plans.{Plans}
 
 -- behind a code 0 a row has only zeros
 abbrev pub ZerosBehind : List ℕ → Type 0
@@ -38,3 +39,11 @@ pub record Ready (types types₂ rows : List (List ℕ)) (last : ℕ) (s map ids
 -- what is carried then
 abbrev pub carryingIn : {types types₂ rows : List (List ℕ)} {last : ℕ} {s map ids : List ℕ} → Ready types types₂ rows last s map ids → Carrying
 carryingIn {s = s} g = carrying (g .from) (g .into) (length s) (g .records)
+
+-- and a plan for each operand of each opcode
+pub record Planned (plans rows : List (List ℕ)) (s map ids : List ℕ) : Type 0 where
+  pub types : List (List ℕ)
+  pub types₂ : List (List ℕ)
+  pub last : ℕ
+  pub ready : Ready types types₂ rows last s map ids
+  pub plans-are : Plans types types₂ rows last plans

@@ -42,7 +42,8 @@ fn carry_marked(
     requires { ⌜ Ready (now types) (now types2) (now rows) last (now s) (now map) (now ids) ⌝ }
     ensures { λ r. ⌜ ((g : Ready (now (types .entry)) (now (types2 .entry)) (now (rows .entry)) last (now (s .entry)) (now (map .entry)) (now (ids .entry))) → n ≡ length (g .records) → Ended (carryUnder (g .«from») (g .into) last (now (s .entry))) (now (out .entry)) (lent ∷ []) (now (out .exit)) (carryReport r)) ⌝ }
 {
-    let b = crate::instructions::carry_instructions(types, types2, rows, last, s, map, ids, out);
+    let plans = crate::plans::plan_table(types, types2, rows, last);
+    let b = crate::instructions::carry_instructions(&plans, rows, s, map, ids, out);
     match b {
         Bytes::Written(k) => {
             let m = operation::ending::measure(k, limits::BODY_LIMIT, n, lent, out);

@@ -4,12 +4,13 @@ ghost use mathlib.Core.Path.{_≡_};
 ghost use Prim.Native.Nat.{ℕ, _+_, _^_, _<_, _≤_};
 ghost use lib.ListN.{length, getD};
 ghost use Rattle.limits.specs.Limits.{bodyLimit};
-ghost use Rattle.spec_sheet.specs.Row.{lengthOf, countOf};
+ghost use Rattle.spec_sheet.specs.Row.{countOf};
 ghost use Rattle.spec_body.specs.Record.{pairs};
 ghost use Rattle.spec_carry.specs.Passes.{Carrying};
 ghost use Rattle.carry.specs.Ids.{Translated};
 ghost use Rattle.carry.specs.Places.{Mapped};
-ghost use Rattle.carry.specs.Ready.{ZerosBehind, Ready, carryingIn};
+ghost use Rattle.carry.specs.Plans.{Planning};
+ghost use Rattle.carry.specs.Ready.{ZerosBehind, Planned, carryingIn};
 ghost use Rattle.carry.specs.Carried.{firstFar, OperandsCarried, keepFirst, endedWith, BytesCarried};
 use crate::opcodes::KNOWN;
 use crate::opcodes::LENGTH;
@@ -47,10 +48,9 @@ fn first_far(far: usize, is_far: bool, q: usize) -> usize
     if is_far { q } else { 0 }
 }
 
-// Carries the operands of the instruction that stood at `at` and stands at `new`, which have these types under the two sheets.
+// Carries the operands of the instruction that stood at `at` and stands at `new`, by their plans.
 fn carry_operands(
-    row: [u8; 8],
-    row2: [u8; 8],
+    plans: [u16; 8],
     s: &[u8],
     at: usize,
     new: usize,
@@ -59,19 +59,19 @@ fn carry_operands(
     block: &mut [u8],
     k: usize,
 ) -> Operands
-    requires { ⌜ (at + lengthOf row ≤ length (now s)) × (length (now s) ≤ bodyLimit) × (new < 2 ^ 32) ⌝ }
-    ensures { λ r. ⌜ ((x : Carrying) (i : ℕ) → Mapped x (now (map .entry)) → Translated (x .«from» .bytes) (x .«from» .ends) (x .into .bytes) (x .into .ends) (now (ids .entry)) → ZerosBehind row → ZerosBehind row2 → countOf row ≡ countOf row2 → new ≡ getD (x .moved) i 0 → OperandsCarried x i at new row row2 (pairs row (now (s .entry)) (at + 1)) (now (block .entry)) k (now (block .exit)) r) ⌝ }
+    requires { ⌜ Planning plans (now s) at × (length (now s) ≤ bodyLimit) × (new < 2 ^ 32) ⌝ }
+    ensures { λ r. ⌜ ((g : Planning plans (now (s .entry)) at) (x : Carrying) (i : ℕ) → Mapped x (now (map .entry)) → Translated (x .«from» .bytes) (x .«from» .ends) (x .into .bytes) (x .into .ends) (now (ids .entry)) → ZerosBehind (g .row) → ZerosBehind (g .row′) → countOf (g .row) ≡ countOf (g .row′) → new ≡ getD (x .moved) i 0 → OperandsCarried x i at new (g .row) (g .row′) (pairs (g .row) (now (s .entry)) (at + 1)) (now (block .entry)) k (now (block .exit)) r) ⌝ }
 {
     let mut n = k;
     let mut far: usize = 0;
     let mut p = at + 1;
     let mut j: usize = 0;
     while j < 8 {
-        let c = row[j];
-        if c == 0 {
+        let plan = plans[j];
+        if plan == 0 {
             return Operands::Done(n, far);
         }
-        let r = crate::operand_carry::carry_operand(c, row2[j], s, p, at, new, map, ids, block, n);
+        let r = crate::operand_carry::carry_operand(plan, s, p, at, new, map, ids, block, n);
         match r {
             Carried::Done(next, is_far) => {
                 n = next;
@@ -81,7 +81,7 @@ fn carry_operands(
                 return Operands::Refused(fault, j + 1);
             }
         }
-        p += sheet::operand_types::width(c);
+        p += crate::plans::old_width(plan);
         j += 1;
     }
     Operands::Done(n, far)
@@ -124,17 +124,15 @@ const INSTRUCTION_START: usize = 1968;
 
 // Carries all instructions of a body, from the front of the output on.
 pub(crate) fn carry_instructions(
-    types: &[[u8; 8]; 256],
-    types2: &[[u8; 8]; 256],
+    plans: &[[u16; 8]; 256],
     rows: &[[usize; 4]; 256],
-    last: usize,
     s: &[u8],
     map: &[u32],
     ids: &[u32],
     out: &mut [u8],
 ) -> Bytes
-    requires { ⌜ Ready (now types) (now types2) (now rows) last (now s) (now map) (now ids) ⌝ }
-    ensures { λ r. ⌜ ((g : Ready (now (types .entry)) (now (types2 .entry)) (now (rows .entry)) last (now (s .entry)) (now (map .entry)) (now (ids .entry))) → BytesCarried (carryingIn g) (g .records) (now (out .entry)) (now (out .exit)) r) ⌝ }
+    requires { ⌜ Planned (now plans) (now rows) (now s) (now map) (now ids) ⌝ }
+    ensures { λ r. ⌜ ((g : Planned (now (plans .entry)) (now (rows .entry)) (now (s .entry)) (now (map .entry)) (now (ids .entry))) → BytesCarried (carryingIn (g .ready)) (g .ready .records) (now (out .entry)) (now (out .exit)) r) ⌝ }
 {
     let mut block = [0u8; BLOCK];
     let mut n: usize = 0;
@@ -161,17 +159,7 @@ pub(crate) fn carry_instructions(
         }
         let opcode = row[OPCODE];
         let b = put_word(&mut block, n, 1, opcode as u64);
-        let r = carry_operands(
-            types[op],
-            types2[opcode],
-            s,
-            at,
-            new,
-            map,
-            ids,
-            &mut block,
-            b,
-        );
+        let r = carry_operands(plans[op], s, at, new, map, ids, &mut block, b);
         match r {
             Operands::Done(next, operand) => {
                 n = next;

@@ -1,28 +1,30 @@
-use mathlib.Core.Path.{refl, _∙_}
+use mathlib.Core.Path.{refl, sym, _∙_}
 use Prim.Native.Nat.{_-_}
 use native.Mathlib.Numerals.{unary-clauses}
 use native.Mathlib.Omega.{arith}
 use lib.ListN.{length}
 use Rattle.lists.proofs.Writes.{kept-length}
-use Rattle.carry.proofs.InstructionLoop.{Going, start, roomy, all-done, here, unknown, other-count, bad, turn}
+use Rattle.carry.specs.Ready.{Planned}
+use Rattle.carry.proofs.InstructionLoop.{Going, start, roomy, all-done, here, planning, unknown, other-count, bad, turn}
 use borrow.Author.Needs.{needs}
 use Rattle.carry.proofs.instructions.carry_instructions.Statement.{statement}
 use Rattle.carry.proofs.instructions.carry_instructions.Tie as tie
 
 abbrev Inv-loop : tie.InvT-loop
-Inv-loop types types2 rows last s map ids out₀ block₀ n₀ k₀ new₀ i₀ far₀ at₀ out block n k new i far at = Going types types2 rows last s map ids out₀ out block k n new i far at
+Inv-loop plans rows s map ids out₀ block₀ n₀ k₀ new₀ i₀ far₀ at₀ out block n k new i far at =
+    (g : Planned plans rows s map ids) → Going (g .types) (g .types₂) rows (g .last) s map ids out₀ out block k n new i far at
 
 abbrev μ-loop : tie.MeasureT-loop
-μ-loop types types2 rows last s map ids out₀ block₀ n₀ k₀ new₀ i₀ far₀ at₀ out block n k new i far at = length s - at
+μ-loop plans rows s map ids out₀ block₀ n₀ k₀ new₀ i₀ far₀ at₀ out block n k new i far at = length s - at
 
 loop-holds : tie.Need-loop-holds Inv-loop μ-loop
-loop-holds c = start _ _ _ _ _ _ _ _ _ _ (search needs) refl (omega arith)
+loop-holds c = λ g. start _ _ _ _ _ _ _ _ _ _ (search needs) refl (omega arith)
 
 slice-aggregate-make-room : tie.Need-slice-aggregate-make-room Inv-loop μ-loop
-slice-aggregate-make-room c = search needs
+slice-aggregate-make-room c = sym (c .before .before .before .loop .inv (c .before .before .before .before .before .before .before .before .pre) .size)
 
 make-room-requires : tie.Need-make-room-requires Inv-loop μ-loop
-make-room-requires c κs = omega (arith, c .before .before .before .loop .inv .held, c .before .before .before .loop .inv .size)
+make-room-requires c κs = omega (arith, c .before .before .before .loop .inv (c .before .before .before .before .before .before .before .before .pre) .held, c .before .before .before .loop .inv (c .before .before .before .before .before .before .before .before .pre) .size)
 
 shared-slice-read-op : tie.Need-shared-slice-read-op Inv-loop μ-loop
 shared-slice-read-op c = search needs
@@ -41,29 +43,29 @@ array-read-state c = search needs
 
 same-length : tie.Need-same-length Inv-loop μ-loop
 same-length c =
-    let room = roomy _ _ _ _ _ _ _ _ _ _ _ _ _ _ _ _ (c .before .before .before .before .before .before .before .before .before .loop .inv) (c .before .before .before .before .before .make-room .ensures) in
+    let room = roomy _ _ _ _ _ _ _ _ _ _ _ _ _ _ _ _ (c .before .before .before .before .before .before .before .before .before .loop .inv (c .before .before .before .before .before .before .before .before .before .before .before .before .before .before .pre)) (c .before .before .before .before .before .make-room .ensures) in
     room .1 .same
 
 returns : tie.Need-returns Inv-loop μ-loop
-returns c =
-    let room = roomy _ _ _ _ _ _ _ _ _ _ _ _ _ _ _ _ (c .before .before .before .before .before .before .before .before .before .loop .inv) (c .before .before .before .before .before .make-room .ensures) in
-    unknown _ _ _ _ _ _ _ _ _ _ _ _ _ _ _ _ (room .1) (c .before .before .before .before .before .before .before .before .loop-test .taken) (c .before .before .shared-slice-known4 .given (c .before .before .before .before .before .before .before .before .before .loop .at) .fits) (c .if1 .taken)
+returns c = λ g.
+    let room = roomy _ _ _ _ _ _ _ _ _ _ _ _ _ _ _ _ (c .before .before .before .before .before .before .before .before .before .loop .inv g) (c .before .before .before .before .before .make-room .ensures) in
+    unknown _ _ _ _ _ _ _ _ _ _ _ _ _ _ _ _ (room .1) (c .before .before .before .before .before .before .before .before .loop-test .taken) (c .before .before .shared-slice-known4 .given (c .before .before .before .before .before .before .before .before .before .loop .at) .fits) (c .if1 .taken) (g .ready)
 
 same-length-2 : tie.Need-same-length-2 Inv-loop μ-loop
 same-length-2 c =
-    let room = roomy _ _ _ _ _ _ _ _ _ _ _ _ _ _ _ _ (c .before .before .before .before .before .before .before .before .before .before .loop .inv) (c .before .before .before .before .before .before .make-room .ensures) in
+    let room = roomy _ _ _ _ _ _ _ _ _ _ _ _ _ _ _ _ (c .before .before .before .before .before .before .before .before .before .before .loop .inv (c .before .before .before .before .before .before .before .before .before .before .before .before .before .before .before .pre)) (c .before .before .before .before .before .before .make-room .ensures) in
     room .1 .same
 
 returns-2 : tie.Need-returns-2 Inv-loop μ-loop
-returns-2 c =
-    let room = roomy _ _ _ _ _ _ _ _ _ _ _ _ _ _ _ _ (c .before .before .before .before .before .before .before .before .before .before .loop .inv) (c .before .before .before .before .before .before .make-room .ensures) in
-    other-count _ _ _ _ _ _ _ _ _ _ _ _ _ _ _ _ (room .1) (c .before .before .before .before .before .before .before .before .before .loop-test .taken) (c .before .before .before .shared-slice-known4 .given (c .before .before .before .before .before .before .before .before .before .before .loop .at) .fits) (c .before .if1 .left) (c .if2 .taken)
+returns-2 c = λ g.
+    let room = roomy _ _ _ _ _ _ _ _ _ _ _ _ _ _ _ _ (c .before .before .before .before .before .before .before .before .before .before .loop .inv g) (c .before .before .before .before .before .before .make-room .ensures) in
+    other-count _ _ _ _ _ _ _ _ _ _ _ _ _ _ _ _ (room .1) (c .before .before .before .before .before .before .before .before .before .loop-test .taken) (c .before .before .before .shared-slice-known4 .given (c .before .before .before .before .before .before .before .before .before .before .loop .at) .fits) (c .before .if1 .left) (c .if2 .taken) (g .ready)
 
 array-read-opcode : tie.Need-array-read-opcode Inv-loop μ-loop
 array-read-opcode c = search needs
 
 slice-aggregate-put-word : tie.Need-slice-aggregate-put-word Inv-loop μ-loop
-slice-aggregate-put-word c = search needs
+slice-aggregate-put-word c = sym (c .before .before .before .before .before .before .before .before .before .before .before .loop .inv (c .before .before .before .before .before .before .before .before .before .before .before .before .before .before .before .before .pre) .size)
 
 put-word-requires : tie.Need-put-word-requires Inv-loop μ-loop
 put-word-requires c κs = search needs
@@ -74,23 +76,13 @@ mul-carry-operands c = omega (arith, c .before .before .before .before .before .
 element-copy-out-carry-operands : tie.Need-element-copy-out-carry-operands Inv-loop μ-loop
 element-copy-out-carry-operands c = c .before .before .before .before .before .before .shared-slice-known4 .given (c .before .before .before .before .before .before .before .before .before .before .before .before .before .loop .at) .fits
 
-mul-carry-operands-2 : tie.Need-mul-carry-operands-2 Inv-loop μ-loop
-mul-carry-operands-2 c =
-    let room = roomy _ _ _ _ _ _ _ _ _ _ _ _ _ _ _ _ (c .before .before .before .before .before .before .before .before .before .before .before .before .before .before .loop .inv) (c .before .before .before .before .before .before .before .before .before .before .make-room .ensures) in
-    omega (arith, here _ _ _ _ _ _ _ _ _ _ _ _ _ _ _ _ (room .1) (c .before .before .before .before .before .before .before .before .before .before .before .before .before .loop-test .taken) (c .before .before .before .before .before .before .before .shared-slice-known4 .given (c .before .before .before .before .before .before .before .before .before .before .before .before .before .before .loop .at) .fits) (c .before .before .before .before .before .before .before .before .before .before .before .before .before .before .before .before .before .before .before .pre))
-
-element-copy-out-carry-operands-2 : tie.Need-element-copy-out-carry-operands-2 Inv-loop μ-loop
-element-copy-out-carry-operands-2 c =
-    let room = roomy _ _ _ _ _ _ _ _ _ _ _ _ _ _ _ _ (c .before .before .before .before .before .before .before .before .before .before .before .before .before .before .loop .inv) (c .before .before .before .before .before .before .before .before .before .before .make-room .ensures) in
-    here _ _ _ _ _ _ _ _ _ _ _ _ _ _ _ _ (room .1) (c .before .before .before .before .before .before .before .before .before .before .before .before .before .loop-test .taken) (c .before .before .before .before .before .before .before .shared-slice-known4 .given (c .before .before .before .before .before .before .before .before .before .before .before .before .before .before .loop .at) .fits) (c .before .before .before .before .before .before .before .before .before .before .before .before .before .before .before .before .before .before .before .pre) .known
-
 slice-aggregate-carry-operands : tie.Need-slice-aggregate-carry-operands Inv-loop μ-loop
 slice-aggregate-carry-operands c = search needs
 
 carry-operands-requires : tie.Need-carry-operands-requires Inv-loop μ-loop
 carry-operands-requires c κs =
-    let room = roomy _ _ _ _ _ _ _ _ _ _ _ _ _ _ _ _ (c .before .before .before .before .before .before .before .before .before .before .before .before .before .before .before .before .loop .inv) (c .before .before .before .before .before .before .before .before .before .before .before .before .make-room .ensures) in
-    (here _ _ _ _ _ _ _ _ _ _ _ _ _ _ _ _ (room .1) (c .before .before .before .before .before .before .before .before .before .before .before .before .before .before .before .loop-test .taken) (c .before .before .before .before .before .before .before .before .before .shared-slice-known4 .given (c .before .before .before .before .before .before .before .before .before .before .before .before .before .before .before .before .loop .at) .fits) (c .before .before .before .before .before .before .before .before .before .before .before .before .before .before .before .before .before .before .before .before .before .pre) .room, c .before .before .before .before .before .before .before .before .before .before .before .before .before .before .before .before .before .before .before .before .before .pre .few, omega (arith, c .before .before .before .before .before .before .before .before .before .before .before .before .before .before .before .before .loop .inv .small, c .before .before .before .before .before .before .before .before .before .before .before .before .before .before .before .before .loop .inv .inside, c .before .before .before .before .before .before .before .before .before .before .before .before .before .before .before .before .before .before .before .before .before .pre .few))
+    let room = roomy _ _ _ _ _ _ _ _ _ _ _ _ _ _ _ _ (c .before .before .before .before .before .before .before .before .before .before .before .before .before .before .before .loop .inv (c .before .before .before .before .before .before .before .before .before .before .before .before .before .before .before .before .before .before .before .before .pre)) (c .before .before .before .before .before .before .before .before .before .before .before .make-room .ensures) in
+    (planning _ _ _ _ _ _ _ _ _ _ _ _ _ _ _ _ (room .1) (c .before .before .before .before .before .before .before .before .before .before .before .before .before .before .loop-test .taken) (c .before .before .before .before .before .before .before .before .shared-slice-known4 .given (c .before .before .before .before .before .before .before .before .before .before .before .before .before .before .before .loop .at) .fits) (c .before .before .before .before .before .before .before .before .before .before .before .before .before .before .before .before .before .before .before .before .pre .ready) (c .before .before .before .before .before .before .before .before .before .before .before .before .before .before .before .before .before .before .before .before .args .plans .now) (c .before .before .before .before .before .before .before .before .before .before .before .before .before .before .before .before .before .before .before .before .pre .plans-are), c .before .before .before .before .before .before .before .before .before .before .before .before .before .before .before .before .before .before .before .before .pre .ready .few, omega (arith, c .before .before .before .before .before .before .before .before .before .before .before .before .before .before .before .loop .inv (c .before .before .before .before .before .before .before .before .before .before .before .before .before .before .before .before .before .before .before .before .pre) .small, c .before .before .before .before .before .before .before .before .before .before .before .before .before .before .before .loop .inv (c .before .before .before .before .before .before .before .before .before .before .before .before .before .before .before .before .before .before .before .before .pre) .inside, c .before .before .before .before .before .before .before .before .before .before .before .before .before .before .before .before .before .before .before .before .pre .ready .few))
 
 enum-known-r : tie.Need-enum-known-r Inv-loop μ-loop
 enum-known-r c = search needs
@@ -103,42 +95,42 @@ enum-known-r-2 c = search needs
 
 same-length-3 : tie.Need-same-length-3 Inv-loop μ-loop
 same-length-3 c =
-    let room = roomy _ _ _ _ _ _ _ _ _ _ _ _ _ _ _ _ (c .before .before .before .before .before .before .before .before .before .before .before .before .before .before .before .before .before .before .before .before .before .loop .inv) (c .before .before .before .before .before .before .before .before .before .before .before .before .before .before .before .before .before .make-room .ensures) in
+    let room = roomy _ _ _ _ _ _ _ _ _ _ _ _ _ _ _ _ (c .before .before .before .before .before .before .before .before .before .before .before .before .before .before .before .before .before .before .before .before .loop .inv (c .before .before .before .before .before .before .before .before .before .before .before .before .before .before .before .before .before .before .before .before .before .before .before .before .before .pre)) (c .before .before .before .before .before .before .before .before .before .before .before .before .before .before .before .before .make-room .ensures) in
     room .1 .same
 
 returns-3 : tie.Need-returns-3 Inv-loop μ-loop
-returns-3 c =
-    let room = roomy _ _ _ _ _ _ _ _ _ _ _ _ _ _ _ _ (c .before .before .before .before .before .before .before .before .before .before .before .before .before .before .before .before .before .before .before .before .before .loop .inv) (c .before .before .before .before .before .before .before .before .before .before .before .before .before .before .before .before .before .make-room .ensures) in
-    bad _ _ _ _ _ _ _ _ _ _ _ _ _ _ _ _ (room .1) (c .before .before .before .before .before .before .before .before .before .before .before .before .before .before .before .before .before .before .before .before .loop-test .taken) (c .before .before .before .before .before .before .before .before .before .before .before .before .before .before .shared-slice-known4 .given (c .before .before .before .before .before .before .before .before .before .before .before .before .before .before .before .before .before .before .before .before .before .loop .at) .fits) (c .before .before .before .before .before .before .before .before .before .before .before .if2 .left) _ _ (c .before .before .before .before .before .before .before .before .before .put-word .ensures) _ _ (c .before .before .before .before .carry-operands .ensures) _ _ (c .before .r2 .given .1)
+returns-3 c = λ g.
+    let room = roomy _ _ _ _ _ _ _ _ _ _ _ _ _ _ _ _ (c .before .before .before .before .before .before .before .before .before .before .before .before .before .before .before .before .before .before .before .before .loop .inv g) (c .before .before .before .before .before .before .before .before .before .before .before .before .before .before .before .before .make-room .ensures) in
+    bad _ _ _ _ _ _ _ _ _ _ _ _ _ _ _ _ (room .1) (c .before .before .before .before .before .before .before .before .before .before .before .before .before .before .before .before .before .before .before .loop-test .taken) (c .before .before .before .before .before .before .before .before .before .before .before .before .before .shared-slice-known4 .given (c .before .before .before .before .before .before .before .before .before .before .before .before .before .before .before .before .before .before .before .before .loop .at) .fits) (c .before .before .before .before .before .before .before .before .before .before .if2 .left) _ _ (c .before .before .before .before .before .before .before .before .put-word .ensures) _ _ (c .before .before .before .before .carry-operands .ensures (planning _ _ _ _ _ _ _ _ _ _ _ _ _ _ _ _ (room .1) (c .before .before .before .before .before .before .before .before .before .before .before .before .before .before .before .before .before .before .before .loop-test .taken) (c .before .before .before .before .before .before .before .before .before .before .before .before .before .shared-slice-known4 .given (c .before .before .before .before .before .before .before .before .before .before .before .before .before .before .before .before .before .before .before .before .loop .at) .fits) (g .ready) (c .before .before .before .before .before .before .before .before .before .before .before .before .before .before .before .before .before .before .before .before .before .before .before .before .before .args .plans .now) (g .plans-are))) _ _ (c .before .r2 .given .1) (g .ready)
 
 array-read-new : tie.Need-array-read-new Inv-loop μ-loop
 array-read-new c = search needs
 
 add-new : tie.Need-add-new Inv-loop μ-loop
 add-new c =
-    let room = roomy _ _ _ _ _ _ _ _ _ _ _ _ _ _ _ _ (c .before .before .before .before .before .before .before .before .before .before .before .before .before .before .before .before .before .before .before .before .before .before .loop .inv) (c .before .before .before .before .before .before .before .before .before .before .before .before .before .before .before .before .before .before .make-room .ensures) in
-    omega (arith, c .before .before .before .before .before .before .before .before .before .before .before .before .before .before .before .before .before .before .before .before .before .before .loop .inv .small, c .before .before .before .before .before .before .before .before .before .before .before .before .before .before .before .before .before .before .before .before .before .before .loop .inv .inside, c .before .before .before .before .before .before .before .before .before .before .before .before .before .before .before .before .before .before .before .before .before .before .before .before .before .before .before .pre .few, here _ _ _ _ _ _ _ _ _ _ _ _ _ _ _ _ (room .1) (c .before .before .before .before .before .before .before .before .before .before .before .before .before .before .before .before .before .before .before .before .before .loop-test .taken) (c .before .before .before .before .before .before .before .before .before .before .before .before .before .before .before .shared-slice-known4 .given (c .before .before .before .before .before .before .before .before .before .before .before .before .before .before .before .before .before .before .before .before .before .before .loop .at) .fits) (c .before .before .before .before .before .before .before .before .before .before .before .before .before .before .before .before .before .before .before .before .before .before .before .before .before .before .before .pre))
+    let room = roomy _ _ _ _ _ _ _ _ _ _ _ _ _ _ _ _ (c .before .before .before .before .before .before .before .before .before .before .before .before .before .before .before .before .before .before .before .before .before .loop .inv (c .before .before .before .before .before .before .before .before .before .before .before .before .before .before .before .before .before .before .before .before .before .before .before .before .before .before .pre)) (c .before .before .before .before .before .before .before .before .before .before .before .before .before .before .before .before .before .make-room .ensures) in
+    omega (arith, c .before .before .before .before .before .before .before .before .before .before .before .before .before .before .before .before .before .before .before .before .before .loop .inv (c .before .before .before .before .before .before .before .before .before .before .before .before .before .before .before .before .before .before .before .before .before .before .before .before .before .before .pre) .small, c .before .before .before .before .before .before .before .before .before .before .before .before .before .before .before .before .before .before .before .before .before .loop .inv (c .before .before .before .before .before .before .before .before .before .before .before .before .before .before .before .before .before .before .before .before .before .before .before .before .before .before .pre) .inside, c .before .before .before .before .before .before .before .before .before .before .before .before .before .before .before .before .before .before .before .before .before .before .before .before .before .before .pre .ready .few, here _ _ _ _ _ _ _ _ _ _ _ _ _ _ _ _ (room .1) (c .before .before .before .before .before .before .before .before .before .before .before .before .before .before .before .before .before .before .before .before .loop-test .taken) (c .before .before .before .before .before .before .before .before .before .before .before .before .before .before .shared-slice-known4 .given (c .before .before .before .before .before .before .before .before .before .before .before .before .before .before .before .before .before .before .before .before .before .loop .at) .fits) (c .before .before .before .before .before .before .before .before .before .before .before .before .before .before .before .before .before .before .before .before .before .before .before .before .before .before .pre .ready))
 
 array-read-at : tie.Need-array-read-at Inv-loop μ-loop
 array-read-at c = search needs
 
 add-at : tie.Need-add-at Inv-loop μ-loop
 add-at c =
-    let room = roomy _ _ _ _ _ _ _ _ _ _ _ _ _ _ _ _ (c .before .before .before .before .before .before .before .before .before .before .before .before .before .before .before .before .before .before .before .before .before .before .loop .inv) (c .before .before .before .before .before .before .before .before .before .before .before .before .before .before .before .before .before .before .make-room .ensures) in
-    omega (arith, c .before .before .before .before .before .before .before .before .before .before .before .before .before .before .before .before .before .before .before .before .before .before .before .before .before .before .before .pre .few, here _ _ _ _ _ _ _ _ _ _ _ _ _ _ _ _ (room .1) (c .before .before .before .before .before .before .before .before .before .before .before .before .before .before .before .before .before .before .before .before .before .loop-test .taken) (c .before .before .before .before .before .before .before .before .before .before .before .before .before .before .before .shared-slice-known4 .given (c .before .before .before .before .before .before .before .before .before .before .before .before .before .before .before .before .before .before .before .before .before .before .loop .at) .fits) (c .before .before .before .before .before .before .before .before .before .before .before .before .before .before .before .before .before .before .before .before .before .before .before .before .before .before .before .pre))
+    let room = roomy _ _ _ _ _ _ _ _ _ _ _ _ _ _ _ _ (c .before .before .before .before .before .before .before .before .before .before .before .before .before .before .before .before .before .before .before .before .before .loop .inv (c .before .before .before .before .before .before .before .before .before .before .before .before .before .before .before .before .before .before .before .before .before .before .before .before .before .before .pre)) (c .before .before .before .before .before .before .before .before .before .before .before .before .before .before .before .before .before .make-room .ensures) in
+    omega (arith, c .before .before .before .before .before .before .before .before .before .before .before .before .before .before .before .before .before .before .before .before .before .before .before .before .before .before .pre .ready .few, here _ _ _ _ _ _ _ _ _ _ _ _ _ _ _ _ (room .1) (c .before .before .before .before .before .before .before .before .before .before .before .before .before .before .before .before .before .before .before .before .loop-test .taken) (c .before .before .before .before .before .before .before .before .before .before .before .before .before .before .shared-slice-known4 .given (c .before .before .before .before .before .before .before .before .before .before .before .before .before .before .before .before .before .before .before .before .before .loop .at) .fits) (c .before .before .before .before .before .before .before .before .before .before .before .before .before .before .before .before .before .before .before .before .before .before .before .before .before .before .pre .ready))
 
 add-i : tie.Need-add-i Inv-loop μ-loop
-add-i c = omega (arith, c .before .before .before .before .before .before .before .before .before .before .before .before .before .before .before .before .before .before .before .before .before .before .loop .inv .below, c .before .before .before .before .before .before .before .before .before .before .before .before .before .before .before .before .before .before .before .before .before .before .loop .inv .inside, c .before .before .before .before .before .before .before .before .before .before .before .before .before .before .before .before .before .before .before .before .before .before .before .before .before .before .before .pre .few)
+add-i c = omega (arith, c .before .before .before .before .before .before .before .before .before .before .before .before .before .before .before .before .before .before .before .before .before .loop .inv (c .before .before .before .before .before .before .before .before .before .before .before .before .before .before .before .before .before .before .before .before .before .before .before .before .before .before .pre) .below, c .before .before .before .before .before .before .before .before .before .before .before .before .before .before .before .before .before .before .before .before .before .loop .inv (c .before .before .before .before .before .before .before .before .before .before .before .before .before .before .before .before .before .before .before .before .before .before .before .before .before .before .pre) .inside, c .before .before .before .before .before .before .before .before .before .before .before .before .before .before .before .before .before .before .before .before .before .before .before .before .before .before .pre .ready .few)
 
 loop-less : tie.Need-loop-less Inv-loop μ-loop
 loop-less c =
-    let room = roomy _ _ _ _ _ _ _ _ _ _ _ _ _ _ _ _ (c .before .before .before .before .before .before .before .before .before .before .before .before .before .before .before .before .before .before .before .before .before .before .loop .inv) (c .before .before .before .before .before .before .before .before .before .before .before .before .before .before .before .before .before .before .make-room .ensures) in
-    omega (arith, here _ _ _ _ _ _ _ _ _ _ _ _ _ _ _ _ (room .1) (c .before .before .before .before .before .before .before .before .before .before .before .before .before .before .before .before .before .before .before .before .before .loop-test .taken) (c .before .before .before .before .before .before .before .before .before .before .before .before .before .before .before .shared-slice-known4 .given (c .before .before .before .before .before .before .before .before .before .before .before .before .before .before .before .before .before .before .before .before .before .before .loop .at) .fits) (c .before .before .before .before .before .before .before .before .before .before .before .before .before .before .before .before .before .before .before .before .before .before .before .before .before .before .before .pre))
+    let room = roomy _ _ _ _ _ _ _ _ _ _ _ _ _ _ _ _ (c .before .before .before .before .before .before .before .before .before .before .before .before .before .before .before .before .before .before .before .before .before .loop .inv (c .before .before .before .before .before .before .before .before .before .before .before .before .before .before .before .before .before .before .before .before .before .before .before .before .before .before .pre)) (c .before .before .before .before .before .before .before .before .before .before .before .before .before .before .before .before .before .make-room .ensures) in
+    omega (arith, here _ _ _ _ _ _ _ _ _ _ _ _ _ _ _ _ (room .1) (c .before .before .before .before .before .before .before .before .before .before .before .before .before .before .before .before .before .before .before .before .loop-test .taken) (c .before .before .before .before .before .before .before .before .before .before .before .before .before .before .shared-slice-known4 .given (c .before .before .before .before .before .before .before .before .before .before .before .before .before .before .before .before .before .before .before .before .before .loop .at) .fits) (c .before .before .before .before .before .before .before .before .before .before .before .before .before .before .before .before .before .before .before .before .before .before .before .before .before .before .pre .ready))
 
 loop-again : tie.Need-loop-again Inv-loop μ-loop
-loop-again c =
-    let room = roomy _ _ _ _ _ _ _ _ _ _ _ _ _ _ _ _ (c .before .before .before .before .before .before .before .before .before .before .before .before .before .before .before .before .before .before .before .before .before .before .loop .inv) (c .before .before .before .before .before .before .before .before .before .before .before .before .before .before .before .before .before .before .make-room .ensures) in
-    turn _ _ _ _ _ _ _ _ _ _ _ _ _ _ _ _ (room .1) (c .before .before .before .before .before .before .before .before .before .before .before .before .before .before .before .before .before .before .before .before .before .loop-test .taken) (c .before .before .before .before .before .before .before .before .before .before .before .before .before .before .before .shared-slice-known4 .given (c .before .before .before .before .before .before .before .before .before .before .before .before .before .before .before .before .before .before .before .before .before .before .loop .at) .fits) (c .before .before .before .before .before .before .before .before .before .before .before .before .if2 .left) _ _ (c .before .before .before .before .before .before .before .before .before .before .put-word .ensures) _ _ (c .before .before .before .before .before .carry-operands .ensures) (c .before .before .before .before .before .before .before .before .before .before .before .before .before .before .before .before .before .before .before .before .before .before .before .before .before .before .before .pre) (room .0) (search needs) _ _ (c .before .before .r .given .1) _ (c .keep-first .ensures)
+loop-again c = λ g.
+    let room = roomy _ _ _ _ _ _ _ _ _ _ _ _ _ _ _ _ (c .before .before .before .before .before .before .before .before .before .before .before .before .before .before .before .before .before .before .before .before .before .loop .inv g) (c .before .before .before .before .before .before .before .before .before .before .before .before .before .before .before .before .before .make-room .ensures) in
+    turn _ _ _ _ _ _ _ _ _ _ _ _ _ _ _ _ (room .1) (c .before .before .before .before .before .before .before .before .before .before .before .before .before .before .before .before .before .before .before .before .loop-test .taken) (c .before .before .before .before .before .before .before .before .before .before .before .before .before .before .shared-slice-known4 .given (c .before .before .before .before .before .before .before .before .before .before .before .before .before .before .before .before .before .before .before .before .before .loop .at) .fits) (c .before .before .before .before .before .before .before .before .before .before .before .if2 .left) _ _ (c .before .before .before .before .before .before .before .before .before .put-word .ensures) _ _ (c .before .before .before .before .before .carry-operands .ensures (planning _ _ _ _ _ _ _ _ _ _ _ _ _ _ _ _ (room .1) (c .before .before .before .before .before .before .before .before .before .before .before .before .before .before .before .before .before .before .before .before .loop-test .taken) (c .before .before .before .before .before .before .before .before .before .before .before .before .before .before .shared-slice-known4 .given (c .before .before .before .before .before .before .before .before .before .before .before .before .before .before .before .before .before .before .before .before .before .loop .at) .fits) (g .ready) (c .before .before .before .before .before .before .before .before .before .before .before .before .before .before .before .before .before .before .before .before .before .before .before .before .before .before .args .plans .now) (g .plans-are))) (g .ready) (room .0) (c .before .before .before .before .before .carry-operands .kept .1 .1 .1 .1 .1 .1 .0) _ _ (c .before .before .r .given .1) _ (c .keep-first .ensures)
 
 sub-put-bytes : tie.Need-sub-put-bytes Inv-loop μ-loop
 sub-put-bytes c = search needs
@@ -147,7 +139,7 @@ part-put-bytes-start : tie.Need-part-put-bytes-start Inv-loop μ-loop
 part-put-bytes-start c = search needs
 
 part-put-bytes-end : tie.Need-part-put-bytes-end Inv-loop μ-loop
-part-put-bytes-end c = search needs
+part-put-bytes-end c = omega (arith, c .before .before .before .loop .inv (c .before .before .before .before .before .before .before .before .pre) .held, c .before .before .before .loop .inv (c .before .before .before .before .before .before .before .before .pre) .size)
 
 put-bytes-requires : tie.Need-put-bytes-requires Inv-loop μ-loop
 put-bytes-requires c κs = search needs
@@ -156,10 +148,10 @@ ended-requires : tie.Need-ended-requires Inv-loop μ-loop
 ended-requires c κs = search needs
 
 same-length-4 : tie.Need-same-length-4 Inv-loop μ-loop
-same-length-4 c = kept-length (c .before .before .before .put-bytes .ensures) ∙ c .before .before .before .before .before .before .before .before .loop .inv .same
+same-length-4 c = kept-length (c .before .before .before .put-bytes .ensures) ∙ c .before .before .before .before .before .before .before .before .loop .inv (c .before .before .before .before .before .before .before .before .before .before .before .before .before .pre) .same
 
 returns-4 : tie.Need-returns-4 Inv-loop μ-loop
-returns-4 c = rw (c .ended .ensures) (all-done _ _ _ _ _ _ _ _ _ _ _ _ _ _ _ _ (c .before .before .before .before .before .before .before .before .loop .inv) (c .before .before .before .before .before .before .before .loop-test .left) (simp unary-clauses at (c .before .before .before .put-bytes .ensures)))
+returns-4 c = λ g. rw (c .ended .ensures) (all-done _ _ _ _ _ _ _ _ _ _ _ _ _ _ _ _ (c .before .before .before .before .before .before .before .before .loop .inv g) (c .before .before .before .before .before .before .before .loop-test .left) (simp unary-clauses at (c .before .before .before .put-bytes .ensures)) (g .ready))
 
 pub carry-instructions-spec : {M : Type 1} → statement M
 carry-instructions-spec =
@@ -184,8 +176,6 @@ carry-instructions-spec =
     put-word-requires
     mul-carry-operands
     element-copy-out-carry-operands
-    mul-carry-operands-2
-    element-copy-out-carry-operands-2
     slice-aggregate-carry-operands
     carry-operands-requires
     enum-known-r

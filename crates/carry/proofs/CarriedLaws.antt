@@ -9,7 +9,7 @@ use lib.ListN.{length, getD}
 use borrow.Author.Tests.{eq-eqb, ne-eqb, lt-ltb}
 use Rattle.lists.specs.Choice.{pick, both, within}
 use Rattle.lists.specs.Write.{ByWords}
-use Rattle.lists.proofs.Tests.{by-test, by-eqb, true-not-false}
+use Rattle.lists.proofs.Tests.{by-test, by-eqb, both-no-left, true-not-false}
 use Rattle.answers.specs.Outcome.{Outcome}
 use Rattle.answers.specs.declared.refusal.OperandFault.{OperandFault}
 use Rattle.answers.specs.declared.refusal.OperandFault.the-variants.{NotCarried, Address}
@@ -17,10 +17,10 @@ use Rattle.spec_numbers.specs.LittleEndian.{leBytes}
 use Rattle.spec_sheet.specs.Types.{widthOf, familyOf}
 use Rattle.spec_sheet.proofs.TypeLaws.{within-range}
 use Rattle.spec_carry.specs.Cases.{unlessCase}
-use Rattle.spec_carry.specs.Passes.{Carrying, fits, operandCases}
+use Rattle.spec_carry.specs.Passes.{Carrying, fits, operandCases, newBits}
 use Rattle.carry.specs.Ids.{Translated}
 use Rattle.carry.specs.Places.{Mapped}
-use Rattle.carry.specs.NewBits.{onMoved, numberInto, markInto, idInto, targetMark, distanceInto, addressInto, Moved}
+use Rattle.carry.specs.NewBits.{onMoved, numberInto, markInto, idInto, targetMark, distanceInto, addressInto, isFar, Moved}
 use Rattle.carry.specs.NewBits.Moved.{has-bits, is-far, is-refused}
 use Rattle.carry.specs.Carried.{OperandCarried}
 use Rattle.carry.specs.Carried.OperandCarried.{is-near as operand-near, is-far as operand-far, is-refused as operand-refused}
@@ -52,6 +52,29 @@ mark-not-far : (w mark : ℕ) → markInto w mark ≡ Far → ⊥
 unfolding markInto
 mark-not-far w zero e = let z : _≡_ {A = ℕ} 0 1 = cc e in omega arith
 mark-not-far w (suc k) e = number-not-far w k e
+
+-- an operand that keeps its bytes passes the first pass, is not too far, and has its own bits
+module _ (x : Carrying) (i at q c d bits : ℕ) (same : familyOf c ≡ familyOf d) (no-string : familyOf c ≡ 3 → ⊥) (no-address : familyOf c ≡ 4 → ⊥) where
+  pub kept-passes : both (not (eqb c d)) (within 1 2 (familyOf c)) ≡ false → bits < 256 ^ widthOf c → (rest : Outcome) → unlessCase (operandCases x i at q c d bits) rest ≡ rest
+  unfolding onMoved
+  kept-passes k small rest =
+      by-test (within 1 2 (familyOf c))
+      (λ w.
+      let e : c ≡ d = by-eqb c d (λ z. z) (λ z. absurd (let y : true ≡ false = rw (ne-eqb c d z, w) at k in true-not-false true refl y)) in
+      let f : fits d bits ≡ true = lt-ltb bits (256 ^ widthOf d) (rw e at small) in
+      of-number x i at q c d bits rest same (familyOf c) refl w (ne-eqb (familyOf c) 3 no-string) (ne-eqb (familyOf c) 4 no-address) ∙ rw f)
+      (λ w. of-rest x i at q c d bits rest same
+      (λ z. let y : within 1 2 1 ≡ false = rw z at w in true-not-false true refl y)
+      (λ z. let y : within 1 2 2 ≡ false = rw z at w in true-not-false true refl y)
+      no-string no-address)
+
+  pub kept-near : isFar x i at c d bits ≡ false
+  unfolding familyOf
+  kept-near = both-no-left (eqb d 9) _ (ne-eqb d 9 (λ z. no-address (same ∙ ap familyOf z)))
+
+  pub kept-bits : (new : ℕ) → newBits x at new c d bits ≡ bits
+  unfolding newBits
+  kept-bits new = rw (ne-eqb (familyOf c) 3 no-string, ne-eqb (familyOf c) 4 no-address)
 
 module _ (x : Carrying) (i at q new c d bits : ℕ) (map ids : List ℕ) (m : Mapped x map) (t : Translated (x .from .bytes) (x .from .ends) (x .into .bytes) (x .into .ends) ids) (here : new ≡ getD (x .moved) i 0) where
   abbrev written : NewBits
@@ -123,21 +146,10 @@ module _ (x : Carrying) (i at q new c d bits : ℕ) (map ids : List ℕ) (m : Ma
     pub kept-moved : (familyOf c ≡ 3 → ⊥) → (familyOf c ≡ 4 → ⊥) → both (not (eqb c d)) (within 1 2 (familyOf c)) ≡ false → bits < 256 ^ widthOf c → Moved x i at q new c d bits (Bits bits)
     unfolding onMoved
     kept-moved no-string no-address k small =
-        moved (Bits bits) passes
+        moved (Bits bits)
+        (kept-passes x i at q c d bits same no-string no-address k small)
         (λ n e. rest-bits c d at new bits map ids no-string no-address ∙ e)
         (λ e. absurd (let z : _≡_ {A = ℕ} 0 1 = cc e in omega arith))
-      where
-        passes : (rest : Outcome) → unlessCase (operandCases x i at q c d bits) rest ≡ rest
-        passes rest =
-            by-test (within 1 2 (familyOf c))
-            (λ w.
-            let e : c ≡ d = by-eqb c d (λ z. z) (λ z. absurd (let y : true ≡ false = rw (ne-eqb c d z, w) at k in true-not-false true refl y)) in
-            let f : fits d bits ≡ true = lt-ltb bits (256 ^ widthOf d) (rw e at small) in
-            of-number x i at q c d bits rest same (familyOf c) refl w (ne-eqb (familyOf c) 3 no-string) (ne-eqb (familyOf c) 4 no-address) ∙ rw f)
-            (λ w. of-rest x i at q c d bits rest same
-            (λ z. let y : within 1 2 1 ≡ false = rw z at w in true-not-false true refl y)
-            (λ z. let y : within 1 2 2 ≡ false = rw z at w in true-not-false true refl y)
-            no-string no-address)
 
 -- and then written, or too far
 module _ (x : Carrying) (i at q new c d bits : ℕ) (out : List ℕ) (k : ℕ) (out′ : List ℕ) where

@@ -12,8 +12,8 @@ use borrow.Author.Tests.{eq-eqb, ne-eqb}
 use Rattle.lists.specs.Found.{Found}
 use Rattle.lists.specs.Found.Found.{found, missing}
 use Rattle.lists.specs.Write.{Put, ByWords, top}
-use Rattle.lists.proofs.Tests.{by-eqb}
-use Rattle.lists.proofs.Aheads.{_and-words_, same-ahead, ahead-front, ahead-length}
+use Rattle.lists.proofs.Tests.{by-test, by-eqb}
+use Rattle.lists.proofs.Aheads.{_and-words_, ahead-front}
 use Rattle.lists.proofs.LeftToWrite.{Left, left-all, left-turn, left-same, left-none}
 use Rattle.slices.specs.Block.{RoomMade}
 use Rattle.slices.specs.declared.block.Gathered.{Gathered}
@@ -25,10 +25,9 @@ use Rattle.answers.specs.declared.refusal.OperandFault.{OperandFault}
 use Rattle.answers.specs.declared.refusal.OperandFault.the-variants.{Distance}
 use Rattle.answers.specs.declared.refusal.Refusal.{Refusal}
 use Rattle.answers.specs.declared.refusal.Refusal.the-variants.{UnknownName, OperandCount, BadOperand}
-use Rattle.spec_numbers.proofs.ByteLaws.{length-leBytes}
 use Rattle.spec_sheet.specs.Row.{lengthOf, totalWidth, countOf}
 use Rattle.spec_sheet.specs.Sheet.{isMissing}
-use Rattle.spec_body.specs.Record.{recordOf, offsetOf, opcodeOf, pairsOf}
+use Rattle.spec_body.specs.Record.{pairs, recordOf, offsetOf, opcodeOf, pairsOf}
 use Rattle.spec_body.specs.Decode.{rowAt}
 use Rattle.spec_body.proofs.DecodeLaws.{Decoding, body-stands}
 use Rattle.spec_body.proofs.DecodeLaws.Decoding.{ended, more}
@@ -36,9 +35,11 @@ use Rattle.spec_carry.specs.Cases.{Case, unlessCase}
 use Rattle.spec_carry.specs.Passes.{Carrying, opcodeInto, newOpcode, oldRow, newRow, movedFrom, operandsCases, farCases, newOperands, firstPass, secondPass, newBytes}
 use Rattle.spec_carry.proofs.ResultLaws.{operands-length}
 use Rattle.carry.specs.Opcodes.{stateOf}
-use Rattle.carry.specs.Plans.{Planning, Plans}
-use Rattle.carry.specs.Ready.{Ready, carryingIn}
-use Rattle.carry.specs.Carried.{OperandsCarried, keepFirst, endedWith, BytesCarried, blockSize, instructionStart}
+use Rattle.carry.specs.Plans.{copied, Instruction, Plans}
+use Rattle.carry.specs.Ids.{Translated}
+use Rattle.carry.specs.Places.{Mapped}
+use Rattle.carry.specs.Ready.{ZerosBehind, Ready, carryingIn}
+use Rattle.carry.specs.Carried.{OperandsCarried, InstructionCarried, keepFirst, endedWith, BytesCarried, blockSize, instructionStart}
 use Rattle.carry.specs.Carried.OperandsCarried.{all-near, some-far, some-refused}
 use Rattle.carry.specs.Carried.BytesCarried.{whole, refuses}
 use Rattle.carry.specs.declared.instructions.Operands.{Operands}
@@ -46,36 +47,49 @@ use Rattle.carry.specs.declared.instructions.Operands.the-variants.{Done
 use Rattle.carry.specs.declared.instructions.Bytes.{Bytes}
 use Rattle.carry.specs.declared.instructions.Bytes.the-variants as bytes
 use Rattle.carry.specs.declared.instructions.Far.{Far}
-use Rattle.carry.proofs.OperandLoop.{Promised}
 use Rattle.carry.proofs.PlaceLoop.{length-is, new-length-is}
 
 -- a byte's word
-one-byte : (b : ℕ) → b < 256 → leBytes 1 b ≡ b ∷ []
+pub one-byte : (b : ℕ) → b < 256 → leBytes 1 b ≡ b ∷ []
 unfolding leBytes
 one-byte b h = let e : b % 256 ≡ b = omega arith in rw e
 
 -- what an opcode's state says
-module _ (m n : ℕ) where
-  state-missing : (f : Found) → stateOf f m n ≡ 0 → isMissing f ≡ true
+module _ (row new : List ℕ) where
+  state-missing : (f : Found) → stateOf f row new ≡ 0 → isMissing f ≡ true
   unfolding stateOf isMissing
   state-missing (found k) e =
-      absurd (by-eqb m n (λ q. omega (arith, rw (eq-eqb m n q) at e)) (λ q. omega (arith, rw (ne-eqb m n q) at e)))
+      absurd
+      (by-eqb (countOf row) (countOf new)
+      (λ q. by-test (copied row new) (λ t. omega (arith, rw (eq-eqb (countOf row) (countOf new) q, t) at e)) (λ t. omega (arith, rw (eq-eqb (countOf row) (countOf new) q, t) at e)))
+      (λ q. omega (arith, rw (ne-eqb (countOf row) (countOf new) q) at e)))
   state-missing missing e = refl
 
-  state-found : (f : Found) → (stateOf f m n ≡ 0 → ⊥) → isMissing f ≡ false
+  state-found : (f : Found) → (stateOf f row new ≡ 0 → ⊥) → isMissing f ≡ false
   unfolding stateOf isMissing
   state-found (found k) e = refl
   state-found missing e = absurd (e refl)
 
-  state-other : (f : Found) → (stateOf f m n ≡ 0 → ⊥) → (stateOf f m n ≡ 2 → ⊥) → eqb m n ≡ false
+  state-other : (f : Found) → stateOf f row new ≡ 1 → eqb (countOf row) (countOf new) ≡ false
   unfolding stateOf
-  state-other (found k) e h = by-eqb m n (λ q. absurd (h (rw (eq-eqb m n q)))) (λ q. ne-eqb m n q)
-  state-other missing e h = absurd (e refl)
+  state-other (found k) e =
+      by-eqb (countOf row) (countOf new)
+      (λ q. absurd (by-test (copied row new) (λ t. omega (arith, rw (eq-eqb (countOf row) (countOf new) q, t) at e)) (λ t. omega (arith, rw (eq-eqb (countOf row) (countOf new) q, t) at e))))
+      (λ q. ne-eqb (countOf row) (countOf new) q)
+  state-other missing e = absurd (omega (arith, e))
 
-  state-known : (f : Found) → stateOf f m n ≡ 2 → m ≡ n
+  state-known : (f : Found) → (stateOf f row new ≡ 0 → ⊥) → (stateOf f row new ≡ 1 → ⊥) → countOf row ≡ countOf new
   unfolding stateOf
-  state-known (found k) e = by-eqb m n (λ q. q) (λ q. absurd (omega (arith, rw (ne-eqb m n q) at e)))
-  state-known missing e = absurd (omega (arith, e))
+  state-known (found k) z o = by-eqb (countOf row) (countOf new) (λ q. q) (λ q. absurd (o (rw (ne-eqb (countOf row) (countOf new) q))))
+  state-known missing z o = absurd (z refl)
+
+  pub state-copied : (f : Found) → stateOf f row new ≡ 3 → copied row new ≡ true
+  unfolding stateOf
+  state-copied (found k) e =
+      by-test (copied row new)
+      (λ t. t)
+      (λ t. absurd (by-eqb (countOf row) (countOf new) (λ q. omega (arith, rw (eq-eqb (countOf row) (countOf new) q, t) at e)) (λ q. omega (arith, rw (ne-eqb (countOf row) (countOf new) q) at e))))
+  state-copied missing e = absurd (omega (arith, e))
 
 -- one instruction first in the first pass: its name, its operand count, then its operands
 module _ (x : Carrying) (i : ℕ) (r : List ℕ) (rs : List (List ℕ)) (cs : List Case) (rest : Outcome) where
@@ -134,6 +148,13 @@ moved-next : (x : Carrying) (i new : ℕ) (r : List ℕ) (rs : List (List ℕ)) 
     → drop (i + 1) (x .moved) ≡ movedFrom (x .from) (x .into) (new + lengthOf (newRow (x .from) (x .into) r)) rs
 unfolding movedFrom
 moved-next x i new r rs e = sym (drop-drop 1 i (x .moved)) ∙ ap (drop 1) e
+
+-- what an answer says of an instruction, of any carrying that has this map and these ids
+abbrev pub Promised : ℕ → List ℕ → List ℕ → List ℕ → ℕ → ℕ → List ℕ → List ℕ → List ℕ → ℕ → List ℕ → Operands → Type 0
+Promised op row row′ s at new map ids block n block′ r =
+    (x : Carrying) (i : ℕ)
+    → Mapped x map → Translated (x .«from» .bytes) (x .«from» .ends) (x .into .bytes) (x .into .ends) ids → ZerosBehind row → ZerosBehind row′ → countOf row ≡ countOf row′ → new ≡ getD (x .moved) i 0
+    → InstructionCarried x i at new op row row′ (pairs row s (at + 1)) block n block′ r
 
 -- the first 8
 module _ (far : Far) (i q : ℕ) where
@@ -276,10 +297,10 @@ module _ (types types₂ rows : List (List ℕ)) (last : ℕ) (s map ids out₀ 
         opcode-is : getD row 1 0 ≡ newOpcode (g .from) (g .into) record-here
         opcode-is = ap (λ (l : List ℕ). getD l 1 0) (g .rows-are op u (instruction .small))
 
-        old-is : oldRow (g .from) record-here ≡ old
+        pub old-is : oldRow (g .from) record-here ≡ old
         old-is = ap (λ (t : List (List ℕ)). getD t op []) (g .types-are)
 
-        new-is : newRow (g .from) (g .into) record-here ≡ row′
+        pub new-is : newRow (g .from) (g .into) record-here ≡ row′
         new-is = ap (λ (t : List (List ℕ)). getD t (newOpcode (g .from) (g .into) record-here) []) (g .types₂-are) ∙ ap (λ (n : ℕ). getD types₂ n []) (sym opcode-is)
 
         abbrev counts : ℕ
@@ -288,10 +309,10 @@ module _ (types types₂ rows : List (List ℕ)) (last : ℕ) (s map ids out₀ 
         abbrev counts′ : ℕ
         counts′ = countOf (newRow (g .from) (g .into) record-here)
 
-        state-is : getD row 0 0 ≡ stateOf name-found counts counts′
+        pub state-is : getD row 0 0 ≡ stateOf name-found (oldRow (g .from) record-here) (newRow (g .from) (g .into) record-here)
         state-is = ap (λ (l : List ℕ). getD l 0 0) (g .rows-are op u (instruction .small))
 
-        length-here : getD row 2 0 ≡ lengthOf old
+        pub length-here : getD row 2 0 ≡ lengthOf old
         length-here = length-is (g .from) (g .into) last rows (g .rows-are) op u (instruction .small) ∙ ap lengthOf old-is
 
         new-length : getD row 3 0 ≡ lengthOf (newRow (g .from) (g .into) record-here)
@@ -309,9 +330,14 @@ module _ (types types₂ rows : List (List ℕ)) (last : ℕ) (s map ids out₀ 
           most = g .lengths op u (instruction .small);
         }
 
-        -- the plans of its operands
-        abbrev pub planning : (plans : List (List ℕ)) → Plans types types₂ rows last plans → Planning (getD plans op []) s at
-        planning plans p = record { row = old; row′ = row′; planned = p op u (instruction .small); room = instruction .room }
+        -- its row, and the plans of its operands
+        abbrev pub planned-here : (plans : List (List ℕ)) → Plans types types₂ rows last plans → Instruction row (getD plans op []) s at
+        planned-here plans p = record {
+          planning = record { row = old; row′ = row′; planned = p op u (instruction .small); room = instruction .room };
+          state = λ z. rw (old-is, new-is) at (state-copied (oldRow (g .from) record-here) (newRow (g .from) (g .into) record-here) name-found (sym state-is ∙ z));
+          known = g .opcodes op u (instruction .small);
+          size = length-here;
+        }
 
         -- the first pass goes on from here
         from-here : (cs : List Case) (rest : Outcome) → unlessCase (firstPass (carryingIn g) 0 (g .records) ++ cs) rest
@@ -323,23 +349,23 @@ module _ (types types₂ rows : List (List ℕ)) (last : ℕ) (s map ids out₀ 
         refused-here f e out′ = refuses f refl (λ cs rest. from-here _ rest ∙ e _ rest)
 
         -- its name is known, with as many operands
-        module _ (e : getD row 0 0 ≡ 2) where
+        module _ (e : (getD row 0 0 ≡ 0 → ⊥) × (getD row 0 0 ≡ 1 → ⊥)) where
           same-count : counts ≡ counts′
-          same-count = state-known counts counts′ name-found (sym state-is ∙ e)
+          same-count = state-known (oldRow (g .from) record-here) (newRow (g .from) (g .into) record-here) name-found (λ z. e .0 (state-is ∙ z)) (λ z. e .1 (state-is ∙ z))
 
           over-operands : (cs : List Case) (rest : Outcome) → unlessCase (firstPass (carryingIn g) i (record-here ∷ instruction .others) ++ cs) rest
               ≡ unlessCase (operandsCases (carryingIn g) i at 1 old row′ (pairsOf record-here) ++ (firstPass (carryingIn g) (suc i) (instruction .others) ++ cs)) rest
           over-operands cs rest =
               first-known (carryingIn g) i record-here (instruction .others) cs rest
-              (state-found counts counts′ name-found (λ z. omega (arith, e, state-is, z))) same-count old row′ old-is new-is
+              (state-found (oldRow (g .from) record-here) (newRow (g .from) (g .into) record-here) name-found (λ z. e .0 (state-is ∙ z))) same-count old row′ old-is new-is
 
           new-is-here : new ≡ getD (carryingIn g .moved) i 0
           new-is-here = moved-here (carryingIn g) i new (m .rs) (m .moved)
 
-          -- what was said of its operands
-          operands-said : (out₁ : List ℕ) (b : ℕ) (out′ : List ℕ) (r : Operands) → Promised old row′ s at new map ids out₁ b out′ r
-              → OperandsCarried (carryingIn g) i at new old row′ (pairsOf record-here) out₁ b out′ r
-          operands-said out₁ b out′ r said =
+          -- what was said of it
+          instruction-said : (out′ : List ℕ) (r : Operands) → Promised (getD row 1 0) old row′ s at new map ids block n out′ r
+              → InstructionCarried (carryingIn g) i at new (getD row 1 0) old row′ (pairsOf record-here) block n out′ r
+          instruction-said out′ r said =
               said (carryingIn g) i (g .mapped) (g .translated) (g .zeros op) (g .zeros₂ (getD row 1 0)) (rw (old-is, new-is) at same-count) new-is-here
 
           bad-here : (out₁ : List ℕ) (b : ℕ) (out′ : List ℕ) (f : OperandFault) (q : ℕ) → OperandsCarried (carryingIn g) i at new old row′ (pairsOf record-here) out₁ b out′ (Refused f q)
@@ -372,14 +398,14 @@ module _ (types types₂ rows : List (List ℕ)) (last : ℕ) (s map ids out₀ 
               ap (λ (l : List (List ℕ)). unlessCase (secondPass (carryingIn g) i l ++ cs) rest) (instruction .are)
               ∙ first-far (carryingIn g) i record-here (instruction .others) old row′ old-is new-is cs rest
 
-          written-next : (out₁ : List ℕ) (b : ℕ) (out′ : List ℕ) (k′ q : ℕ) → ByWords block n (leBytes 1 (getD row 1 0)) out₁ b → OperandsCarried (carryingIn g) i at new old row′ (pairsOf record-here) out₁ b out′ (Done k′ q)
+          written-next : (out₁ : List ℕ) (b : ℕ) (out′ : List ℕ) (k′ q : ℕ) → ByWords block n (getD row 1 0 ∷ []) out₁ b → OperandsCarried (carryingIn g) i at new old row′ (pairsOf record-here) out₁ b out′ (Done k′ q)
               → n ≤ instructionStart → Written g (m .rs) out block k n i far → Written g (instruction .others) out out′ k k′ (suc i) (keepFirst far i q)
           written-next out₁ b out′ k′ q byte o few (met-far z f) = rw (keep-old far i q z) (met-far z f)
           written-next out₁ b out′ k′ q byte (all-near n′ z a c w) few (wrote-all e′ left near) =
               let y : n′ ≡ k′ = cc z in
               let v : q ≡ 0 = cc z in
               let piece = getD row 1 0 ∷ newOperands (carryingIn g) at new old row′ (pairsOf record-here) in
-              let put : ByWords block n piece out′ k′ = same-ahead (one-byte (getD row 1 0) (here .known)) byte and-words (rw y at w) in
+              let put : ByWords block n piece out′ k′ = byte and-words (rw y at w) in
               let fits : n + length piece ≤ length block = omega (arith, few, going .size, operands-length (carryingIn g) at new old row′ (pairsOf record-here), new-size, here .most) in
               rw (keep-new far i q e′)
               (wrote-all v
@@ -395,7 +421,7 @@ module _ (types types₂ rows : List (List ℕ)) (last : ℕ) (s map ids out₀ 
               (met-far (λ y. omega (arith, w, y)) (λ cs rest. near cs rest ∙ (far-first cs rest ∙ (c _ rest ∙ rw w))))
           written-next out₁ b out′ k′ q byte (some-refused f q′ z a) few (wrote-all e′ left near) = absurd (let y : _≡_ {A = ℕ} 0 1 = cc z in omega arith)
 
-          midway-next : (out₁ : List ℕ) (b : ℕ) (out′ : List ℕ) (k′ q : ℕ) → ByWords block n (leBytes 1 (getD row 1 0)) out₁ b → OperandsCarried (carryingIn g) i at new old row′ (pairsOf record-here) out₁ b out′ (Done k′ q)
+          midway-next : (out₁ : List ℕ) (b : ℕ) (out′ : List ℕ) (k′ q : ℕ) → ByWords block n (getD row 1 0 ∷ []) out₁ b → OperandsCarried (carryingIn g) i at new old row′ (pairsOf record-here) out₁ b out′ (Done k′ q)
               → n ≤ instructionStart → Midway g out out′ k k′ (new + getD row 3 0) (i + 1) (keepFirst far i q) (at + getD row 2 0)
           midway-next out₁ b out′ k′ q byte o few =
               record {
@@ -410,30 +436,30 @@ module _ (types types₂ rows : List (List ℕ)) (last : ℕ) (s map ids out₀ 
       pub unknown : getD row 0 0 ≡ 0 → AllPromised out (bytes.Refused (UnknownName i))
       unknown e g =
           refused-here g (UnknownName i)
-          (λ cs rest. first-missing (carryingIn g) i _ _ cs rest (state-missing (counts g) (counts′ g) (name-found g) (sym (state-is g) ∙ e))) out
+          (λ cs rest. first-missing (carryingIn g) i _ _ cs rest (state-missing (oldRow (g .from) (record-here g)) (newRow (g .from) (g .into) (record-here g)) (name-found g) (sym (state-is g) ∙ e))) out
 
       -- 5: it has the name with another number of operands
-      pub other-count : (getD row 0 0 ≡ 0 → ⊥) → (getD row 0 0 ≡ 2 → ⊥) → AllPromised out (bytes.Refused (OperandCount i))
-      other-count e f g =
+      pub other-count : getD row 0 0 ≡ 1 → AllPromised out (bytes.Refused (OperandCount i))
+      other-count e g =
           refused-here g (OperandCount i)
           (λ cs rest. first-other (carryingIn g) i _ _ cs rest
-          (state-found (counts g) (counts′ g) (name-found g) (λ z. e (state-is g ∙ z)))
-          (state-other (counts g) (counts′ g) (name-found g) (λ z. e (state-is g ∙ z)) (λ z. f (state-is g ∙ z)))) out
+          (state-found (oldRow (g .from) (record-here g)) (newRow (g .from) (g .into) (record-here g)) (name-found g) (λ z. omega (arith, e, state-is g, z)))
+          (state-other (oldRow (g .from) (record-here g)) (newRow (g .from) (g .into) (record-here g)) (name-found g) (sym (state-is g) ∙ e))) out
 
-      -- its opcode was written at k, and then its operands were carried
-      module _ (e : getD row 0 0 ≡ 2) (out₁ : List ℕ) (b : ℕ) (byte : ByWords block n (leBytes 1 (getD row 1 0)) out₁ b) (out′ : List ℕ) (r : Operands) (said : Promised old row′ s at new map ids out₁ b out′ r) where
+      -- it was carried
+      module _ (e : (getD row 0 0 ≡ 0 → ⊥) × (getD row 0 0 ≡ 1 → ⊥)) (out′ : List ℕ) (r : Operands) (said : Promised (getD row 1 0) old row′ s at new map ids block n out′ r) where
         -- an operand that cannot be carried
         pub bad : (f : OperandFault) (q : ℕ) → r ≡ Refused f q → AllPromised out (bytes.Refused (BadOperand f i q))
-        bad f q v g = bad-here g e out₁ b out′ f q (rw v at (operands-said g e out₁ b out′ r said))
+        bad f q v g = let c = instruction-said g e out′ (Refused f q) (rw v at said) in bad-here g e (c .block₁) (c .b) out′ f q (c .operands)
 
-        pub turn : Ready types types₂ rows last s map ids → n ≤ instructionStart → length out′ ≡ length out₁ → (k′ q : ℕ) → r ≡ Done k′ q → (far′ : Far) → far′ ≡ keepFirst far i q
+        pub turn : Ready types types₂ rows last s map ids → n ≤ instructionStart → length out′ ≡ length block → (k′ q : ℕ) → r ≡ Done k′ q → (far′ : Far) → far′ ≡ keepFirst far i q
             → Going out out′ k k′ (new + getD row 3 0) (i + 1) far′ (at + getD row 2 0)
         turn g₀ few l k′ q v far′ w = record {
           below = omega (arith, here g₀ .some, going .below);
           inside = here g₀ .next;
           small = omega (arith, here g₀ .some, here g₀ .most, going .small);
           same = going .same;
-          size = l ∙ (ahead-length byte ∙ going .size);
-          held = omega (arith, few, byte .next, length-leBytes 1 (getD row 1 0), next-most g₀ e out₁ b out′ k′ q (rw v at (operands-said g₀ e out₁ b out′ r said)));
-          midway = λ g. rw w (midway-next g e out₁ b out′ k′ q byte (rw v at (operands-said g e out₁ b out′ r said)) few);
+          size = l ∙ going .size;
+          held = let c = instruction-said g₀ e out′ (Done k′ q) (rw v at said) in omega (arith, few, c .opcode-put .next, next-most g₀ e (c .block₁) (c .b) out′ k′ q (c .operands));
+          midway = λ g. let c = instruction-said g e out′ (Done k′ q) (rw v at said) in rw w (midway-next g e (c .block₁) (c .b) out′ k′ q (c .opcode-put) (c .operands) few);
         }

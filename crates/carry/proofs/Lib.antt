@@ -8,6 +8,7 @@ pub mod RowLaws
 pub mod PlanLaws
 pub mod WriteLaws
 pub mod CarriedLaws
+pub mod KeptLaws
 pub mod OperandLoop
 pub mod InstructionLoop
 pub mod InputLaws

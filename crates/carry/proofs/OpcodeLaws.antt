@@ -16,7 +16,7 @@ use Rattle.spec_sheet.specs.Row.{lengthOf, countOf}
 use Rattle.spec_sheet.specs.Sheet.{findName}
 use Rattle.spec_sheet.proofs.OwnNameLaws.{found-below}
 use Rattle.spec_carry.specs.Passes.{orZero}
-use Rattle.carry.specs.Opcodes.{stateOf, foundRow}
+use Rattle.carry.specs.Opcodes.{knownState, stateOf, foundRow}
 
 -- what a search answered, in the type of the definition
 pub was-found : (x : Found) (k : ℕ) → At k ≡ foundOf x → x ≡ found k
@@ -35,7 +35,7 @@ opcode-below s name rows k l e =
 
 -- the row of an opcode that was found, and of one that was not
 module _ (x : Found) (row : List ℕ) (types₂ : List (List ℕ)) where
-  pub row-found : (k state length₁ length₂ : ℕ) → At k ≡ foundOf x → state ≡ pick (eqb (countOf row) (countOf (getD types₂ k []))) 2 1 → length₁ ≡ lengthOf row → length₂ ≡ lengthOf (getD types₂ k [])
+  pub row-found : (k state length₁ length₂ : ℕ) → At k ≡ foundOf x → state ≡ knownState row (getD types₂ k []) → length₁ ≡ lengthOf row → length₂ ≡ lengthOf (getD types₂ k [])
       → (state ∷ k ∷ length₁ ∷ length₂ ∷ []) ≡ foundRow x row types₂
   unfolding stateOf orZero
   row-found k state length₁ length₂ e a b c = rw (was-found x k e, a, b, c)

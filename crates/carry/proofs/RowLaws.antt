@@ -24,7 +24,7 @@ unfolding unlessCase
 unless-then [] ds rest = refl
 unless-then (c ∷ cs) ds rest = ap (λ (o : Outcome). pick (c .holds) (refusedWith (c .refusal)) o) (unless-then cs ds rest)
 
-passed-both : (cs ds : List Case) → Passed cs → Passed ds → Passed (cs ++ ds)
+pub passed-both : (cs ds : List Case) → Passed cs → Passed ds → Passed (cs ++ ds)
 passed-both [] ds none q = q
 passed-both (c ∷ cs) ds (one e p) q = one e (passed-both cs ds p q)
 

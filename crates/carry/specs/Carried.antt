@@ -2,7 +2,7 @@
 -- document 01 at once. Assumes nothing.
 use mathlib.Core.Path.{_≡_}
 use mathlib.Core.Bool.{Bool, true, false}
-use mathlib.Core.List.{List, _++_}
+use mathlib.Core.List.{List, [], _∷_, _++_}
 use Prim.Native.Nat.{ℕ, suc, _+_, _≤_}
 use lib.Dec.{eqb}
 use Rattle.lists.specs.Choice.{pick}
@@ -51,6 +51,13 @@ pub data OperandsCarried (x : Carrying) (i at new : ℕ) (row row′ ps block : 
       → OperandsCarried x i at new row row′ ps block k block′ r
   some-refused : (f : OperandFault) (q : ℕ) → r ≡ operands.Refused f q → ((cs : List Case) (rest : Outcome) → unlessCase (operandsCases x i at 1 row row′ ps ++ cs) rest ≡ refusedWith (BadOperand f i q))
       → OperandsCarried x i at new row row′ ps block k block′ r
+
+-- the instruction i, whose new opcode is op: that is written into a block, then its operands are carried
+pub record InstructionCarried (x : Carrying) (i at new op : ℕ) (row row′ ps block : List ℕ) (k : ℕ) (block′ : List ℕ) (r : Operands) : Type 0 where
+  pub block₁ : List ℕ
+  pub b : ℕ
+  pub opcode-put : ByWords block k (op ∷ []) block₁ b
+  pub operands : OperandsCarried x i at new row row′ ps block₁ b block′ r
 
 -- the first 8 of the instructions up to i
 unfoldable pub keepFirst : Far → ℕ → ℕ → Far

@@ -1,7 +1,7 @@
+pub mod Plans
 pub mod Opcodes
 pub mod Ids
 pub mod Places
-pub mod Plans
 pub mod Ready
 pub mod NewBits
 pub mod Carried

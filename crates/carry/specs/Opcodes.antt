@@ -10,18 +10,23 @@ use Rattle.lists.specs.Found.Found.{found, missing}
 use Rattle.spec_sheet.specs.Row.{lengthOf, countOf}
 use Rattle.spec_inputs.specs.Context.{Context}
 use Rattle.spec_carry.specs.Passes.{opcodeInto, orZero}
+use Rattle.carry.specs.Plans.{copied}
 
--- 0 where the second sheet lacks the name, 1 where the operand counts differ, else 2
-unfoldable pub stateOf : Found → ℕ → ℕ → ℕ
-stateOf (found k) m n = pick (eqb m n) 2 1
-stateOf missing m n = 0
+-- 1 where the operand counts of a name differ, 3 where an instruction is copied, else 2
+abbrev pub knownState : List ℕ → List ℕ → ℕ
+knownState row new = pick (eqb (countOf row) (countOf new)) (pick (copied row new) 3 2) 1
+
+-- and 0 where the second sheet lacks the name
+unfoldable pub stateOf : Found → List ℕ → List ℕ → ℕ
+stateOf (found k) row new = knownState row new
+stateOf missing row new = 0
 
 -- the row of an opcode with these types, whose name is found so in the second sheet: its state, its opcode there, and the
 -- instruction's length under both
 abbrev pub foundRow : Found → List ℕ → List (List ℕ) → List ℕ
 foundRow f row types₂ =
     let new = getD types₂ (orZero f) [] in
-    stateOf f (countOf row) (countOf new) ∷ orZero f ∷ lengthOf row ∷ lengthOf new ∷ []
+    stateOf f row new ∷ orZero f ∷ lengthOf row ∷ lengthOf new ∷ []
 
 abbrev pub opcodeRow : Context → Context → ℕ → List ℕ
 opcodeRow a b op = foundRow (opcodeInto a b op) (getD (a .types) op []) (b .types)

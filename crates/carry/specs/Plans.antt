@@ -1,9 +1,9 @@
 -- What is to be done with an operand, by its types under both sheets, in one number. Assumes nothing.
 use mathlib.Core.Path.{_≡_}
-use mathlib.Core.Bool.{not}
+use mathlib.Core.Bool.{Bool, true, not}
 use mathlib.Core.List.{List, [], _∷_}
 use Prim.Native.Nat.{ℕ, _+_, _*_, _/_, _%_, _<_, _≤_}
-use lib.Dec.{eqb}
+use lib.Dec.{eqb, leb}
 use lib.ListN.{length, drop, getD}
 use Rattle.lists.specs.Choice.{pick, both, within}
 use Rattle.spec_sheet.specs.Row.{lengthOf}
@@ -33,6 +33,19 @@ actionOf c d =
     (pick (eqb (familyOf c) stringFamily) string
     (pick (eqb (familyOf c) addrFamily) addr
     (pick (both (not (eqb c d)) (within regFamily uintFamily (familyOf c))) number keeps)))
+
+-- an operand has one type under both sheets and keeps its bytes
+abbrev pub keepsType : ℕ → ℕ → Bool
+keepsType c d = both (eqb c d) (eqb (actionOf c d) keeps)
+
+-- so do all operands of these types
+unfoldable pub keepsAll : List ℕ → List ℕ → Bool
+keepsAll [] ds = true
+keepsAll (c ∷ cs) ds = both (keepsType c (getD ds 0 0)) (keepsAll cs (drop 1 ds))
+
+-- an instruction of at most eight bytes keeps all of them but its opcode
+abbrev pub copied : List ℕ → List ℕ → Bool
+copied row row′ = both (leb (lengthOf row) 8) (keepsAll row row′)
 
 -- the plan: the action, times 256, the width under the first sheet, times 16, and the width under the second; 0 for no operand
 unfoldable pub planOf : ℕ → ℕ → ℕ
@@ -71,6 +84,13 @@ pub record Planning (plans s : List ℕ) (at : ℕ) : Type 0 where
   pub row′ : List ℕ
   pub planned : RowPlanned row row′ plans
   pub room : at + lengthOf row ≤ length s
+
+-- and what the row of its opcode says of it
+pub record Instruction (row plans s : List ℕ) (at : ℕ) : Type 0 where
+  pub planning : Planning plans s at
+  pub state : getD row 0 0 ≡ 3 → copied (planning .row) (planning .row′) ≡ true
+  pub known : getD row 1 0 < 256
+  pub size : getD row 2 0 ≡ lengthOf (planning .row)
 
 -- those of the opcodes up to the largest, whose rows say their opcodes in the second sheet
 abbrev pub Plans : List (List ℕ) → List (List ℕ) → List (List ℕ) → ℕ → List (List ℕ) → Type 0

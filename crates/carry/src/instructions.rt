@@ -1,22 +1,26 @@
 // Both passes of document 01 in one loop over the instructions: a refusal of the first pass is answered where it is met, and the
 // first 8, which belongs to the second, is kept until the first pass is over.
 ghost use mathlib.Core.Path.{_≡_};
-ghost use Prim.Native.Nat.{ℕ, _+_, _^_, _<_, _≤_};
+ghost use mathlib.Core.List.{_∷_};
+ghost use Prim.Native.Nat.{ℕ, _+_, _-_, _^_, _<_, _≤_};
 ghost use lib.ListN.{length, getD};
+ghost use Rattle.lists.specs.Scan.{part};
+ghost use Rattle.lists.specs.Write.{ByWords};
 ghost use Rattle.limits.specs.Limits.{bodyLimit};
 ghost use Rattle.spec_sheet.specs.Row.{countOf};
 ghost use Rattle.spec_body.specs.Record.{pairs};
 ghost use Rattle.spec_carry.specs.Passes.{Carrying};
 ghost use Rattle.carry.specs.Ids.{Translated};
 ghost use Rattle.carry.specs.Places.{Mapped};
-ghost use Rattle.carry.specs.Plans.{Planning};
+ghost use Rattle.carry.specs.Plans.{Planning, Instruction};
 ghost use Rattle.carry.specs.Ready.{ZerosBehind, Planned, carryingIn};
-ghost use Rattle.carry.specs.Carried.{firstFar, OperandsCarried, keepFirst, endedWith, BytesCarried};
-use crate::opcodes::KNOWN;
+ghost use Rattle.carry.specs.Carried.{firstFar, OperandsCarried, InstructionCarried, keepFirst, endedWith, BytesCarried};
+use crate::opcodes::COPIED;
 use crate::opcodes::LENGTH;
 use crate::opcodes::MISSING;
 use crate::opcodes::NEW_LENGTH;
 use crate::opcodes::OPCODE;
+use crate::opcodes::OTHER_COUNT;
 use crate::opcodes::STATE;
 use crate::operand_carry::Carried;
 use answers::refusal::OperandFault;
@@ -87,6 +91,41 @@ fn carry_operands(
     Operands::Done(n, far)
 }
 
+// Writes an instruction that keeps its bytes but for the opcode. One word is read and written, with no branch by its operands: a body
+// of four opcodes takes a sixth fewer machine instructions so.
+fn copy_instruction(row: [usize; 4], s: &[u8], at: usize, block: &mut [u8], n: usize) -> usize
+    requires { ⌜ (at + 8 ≤ length (now s)) × (getD row 1 0 < 256) × (1 ≤ getD row 2 0) × (getD row 2 0 ≤ 8) ⌝ }
+    ensures { λ r. ⌜ ByWords (now (block .entry)) n (getD row 1 0 ∷ part (now (s .entry)) (at + 1) (getD row 2 0 - 1)) (now (block .exit)) r ⌝ }
+{
+    let word = numbers::little_endian::read_of_eight(s, at, 8);
+    let opcode = row[OPCODE] as u64;
+    put_word(block, n, row[LENGTH], word / 256 * 256 + opcode)
+}
+
+// Carries the instruction that stood at `at` and stands at `new`, by the row and the plans of its opcode.
+fn carry_instruction(
+    row: [usize; 4],
+    plans: [u16; 8],
+    s: &[u8],
+    at: usize,
+    new: usize,
+    map: &[u32],
+    ids: &[u32],
+    block: &mut [u8],
+    n: usize,
+) -> Operands
+    requires { ⌜ Instruction row plans (now s) at × (length (now s) ≤ bodyLimit) × (new < 2 ^ 32) ⌝ }
+    ensures { λ r. ⌜ ((g : Instruction row plans (now (s .entry)) at) (x : Carrying) (i : ℕ) → Mapped x (now (map .entry)) → Translated (x .«from» .bytes) (x .«from» .ends) (x .into .bytes) (x .into .ends) (now (ids .entry)) → ZerosBehind (g .planning .row) → ZerosBehind (g .planning .row′) → countOf (g .planning .row) ≡ countOf (g .planning .row′) → new ≡ getD (x .moved) i 0 → InstructionCarried x i at new (getD row 1 0) (g .planning .row) (g .planning .row′) (pairs (g .planning .row) (now (s .entry)) (at + 1)) (now (block .entry)) n (now (block .exit)) r) ⌝ }
+{
+    if row[STATE] == COPIED {
+        if at + 8 <= s.len() {
+            return Operands::Done(copy_instruction(row, s, at, block, n), 0);
+        }
+    }
+    let b = put_word(block, n, 1, row[OPCODE] as u64);
+    carry_operands(plans, s, at, new, map, ids, block, b)
+}
+
 // The first 8 of a body: its instruction, counted from 0, and its operand, counted from 1; no operand where there is none.
 pub struct Far {
     pub instruction: usize,
@@ -154,12 +193,10 @@ pub(crate) fn carry_instructions(
         if state == MISSING {
             return Bytes::Refused(Refusal::UnknownName(i));
         }
-        if state != KNOWN {
+        if state == OTHER_COUNT {
             return Bytes::Refused(Refusal::OperandCount(i));
         }
-        let opcode = row[OPCODE];
-        let b = put_word(&mut block, n, 1, opcode as u64);
-        let r = carry_operands(plans[op], s, at, new, map, ids, &mut block, b);
+        let r = carry_instruction(row, plans[op], s, at, new, map, ids, &mut block, n);
         match r {
             Operands::Done(next, operand) => {
                 n = next;

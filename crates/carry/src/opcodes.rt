@@ -8,11 +8,10 @@ ghost use Rattle.lists.specs.Choice.{pick};
 ghost use Rattle.lists.specs.Text.{text};
 ghost use Rattle.slices.specs.Answers.{foundOf};
 ghost use Rattle.sheet.specs.Keys.{NamesIndexed};
-ghost use Rattle.spec_sheet.specs.Row.{countOf};
 ghost use Rattle.spec_sheet.specs.Line.{nameSize, nameIn};
 ghost use Rattle.spec_sheet.specs.Sheet.{findName};
 ghost use Rattle.spec_inputs.specs.Context.{contextFrom};
-ghost use Rattle.carry.specs.Opcodes.{foundRow, OpcodeRows, NewOpcodes, NewLengths};
+ghost use Rattle.carry.specs.Opcodes.{knownState, foundRow, OpcodeRows, NewOpcodes, NewLengths};
 use sheet::rows::NAME_SIZE;
 use sheet::rows::NAME_START;
 use slices::search::Found;
@@ -26,12 +25,15 @@ pub const LENGTH: usize = 2;
 
 pub const NEW_LENGTH: usize = 3;
 
-// The states: the second sheet lacks the name, has it with another number of operands, or has it.
+// The states: the second sheet lacks the name, has it with another number of operands, or has it; or has it for instructions that
+// keep their bytes but for the opcode.
 pub const MISSING: usize = 0;
 
 pub const OTHER_COUNT: usize = 1;
 
 pub const KNOWN: usize = 2;
+
+pub const COPIED: usize = 3;
 
 // The second sheet's opcode of the name that `info` points to. A gap's name is "<invalid>", which no sheet has.
 fn opcode_into(
@@ -54,12 +56,16 @@ fn opcode_into(
 
 // The state of an opcode that is found, by its types under both sheets.
 fn state_of(row: [u8; 8], new: [u8; 8]) -> usize
-    ensures { λ r. ⌜ r ≡ pick (eqb (countOf row) (countOf new)) 2 1 ⌝ }
+    ensures { λ r. ⌜ r ≡ knownState row new ⌝ }
 {
-    if sheet::row::operand_count(row) == sheet::row::operand_count(new) {
-        return KNOWN;
+    if sheet::row::operand_count(row) != sheet::row::operand_count(new) {
+        return OTHER_COUNT;
     }
-    OTHER_COUNT
+    if crate::plans::is_copied(row, new) {
+        COPIED
+    } else {
+        KNOWN
+    }
 }
 
 // The row of an opcode with these types.

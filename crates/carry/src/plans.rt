@@ -3,7 +3,7 @@
 ghost use mathlib.Core.Path.{_≡_};
 ghost use Prim.Native.Nat.{_≤_};
 ghost use Rattle.carry.specs.Opcodes.{NewOpcodes};
-ghost use Rattle.carry.specs.Plans.{actionOf, planOf, oldWidth, newWidth, RowPlanned, Plans};
+ghost use Rattle.carry.specs.Plans.{actionOf, keepsType, keepsAll, copied, planOf, oldWidth, newWidth, RowPlanned, Plans};
 use crate::opcodes::OPCODE;
 use sheet::operand_types::ADDR_FAMILY;
 use sheet::operand_types::REG_FAMILY;
@@ -43,6 +43,39 @@ fn action_of(c: u8, d: u8) -> u16
         return NUMBER;
     }
     if family == UINT_FAMILY { NUMBER } else { KEEPS }
+}
+
+// Whether an operand has one type under both sheets and keeps its bytes.
+fn keeps_type(c: u8, d: u8) -> bool
+    ensures { λ r. ⌜ r ≡ keepsType c d ⌝ }
+{
+    if c != d {
+        return false;
+    }
+    action_of(c, d) == KEEPS
+}
+
+fn keeps_all(row: [u8; 8], new: [u8; 8]) -> bool
+    ensures { λ r. ⌜ r ≡ keepsAll row new ⌝ }
+{
+    let mut j: usize = 0;
+    while j < 8 {
+        if !keeps_type(row[j], new[j]) {
+            return false;
+        }
+        j += 1;
+    }
+    true
+}
+
+// Whether an instruction of at most eight bytes keeps all of them but its opcode.
+pub(crate) fn is_copied(row: [u8; 8], new: [u8; 8]) -> bool
+    ensures { λ r. ⌜ r ≡ copied row new ⌝ }
+{
+    if 8 < sheet::row::instruction_length(row) {
+        return false;
+    }
+    keeps_all(row, new)
 }
 
 // The plan: the action, times 256, the first sheet's width, times 16, and the second's; 0 where there is no operand.

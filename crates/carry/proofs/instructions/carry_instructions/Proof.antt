@@ -5,7 +5,7 @@ use native.Mathlib.Omega.{arith}
 use lib.ListN.{length}
 use Rattle.lists.proofs.Writes.{kept-length}
 use Rattle.carry.specs.Ready.{Planned}
-use Rattle.carry.proofs.InstructionLoop.{Going, start, roomy, all-done, here, planning, unknown, other-count, bad, turn}
+use Rattle.carry.proofs.InstructionLoop.{Going, start, roomy, all-done, here, planned-here, unknown, other-count, bad, turn}
 use borrow.Author.Needs.{needs}
 use Rattle.carry.proofs.instructions.carry_instructions.Statement.{statement}
 use Rattle.carry.proofs.instructions.carry_instructions.Tie as tie
@@ -59,30 +59,21 @@ same-length-2 c =
 returns-2 : tie.Need-returns-2 Inv-loop μ-loop
 returns-2 c = λ g.
     let room = roomy _ _ _ _ _ _ _ _ _ _ _ _ _ _ _ _ (c .before .before .before .before .before .before .before .before .before .before .loop .inv g) (c .before .before .before .before .before .before .make-room .ensures) in
-    other-count _ _ _ _ _ _ _ _ _ _ _ _ _ _ _ _ (room .1) (c .before .before .before .before .before .before .before .before .before .loop-test .taken) (c .before .before .before .shared-slice-known4 .given (c .before .before .before .before .before .before .before .before .before .before .loop .at) .fits) (c .before .if1 .left) (c .if2 .taken) (g .ready)
+    other-count _ _ _ _ _ _ _ _ _ _ _ _ _ _ _ _ (room .1) (c .before .before .before .before .before .before .before .before .before .loop-test .taken) (c .before .before .before .shared-slice-known4 .given (c .before .before .before .before .before .before .before .before .before .before .loop .at) .fits) (c .if2 .taken) (g .ready)
 
-array-read-opcode : tie.Need-array-read-opcode Inv-loop μ-loop
-array-read-opcode c = search needs
+mul-carry-instruction : tie.Need-mul-carry-instruction Inv-loop μ-loop
+mul-carry-instruction c = omega (arith, c .before .before .before .shared-slice-known4 .given (c .before .before .before .before .before .before .before .before .before .before .loop .at))
 
-slice-aggregate-put-word : tie.Need-slice-aggregate-put-word Inv-loop μ-loop
-slice-aggregate-put-word c = sym (c .before .before .before .before .before .before .before .before .before .before .before .loop .inv (c .before .before .before .before .before .before .before .before .before .before .before .before .before .before .before .before .pre) .size)
+element-copy-out-carry-instruction : tie.Need-element-copy-out-carry-instruction Inv-loop μ-loop
+element-copy-out-carry-instruction c = c .before .before .before .shared-slice-known4 .given (c .before .before .before .before .before .before .before .before .before .before .loop .at) .fits
 
-put-word-requires : tie.Need-put-word-requires Inv-loop μ-loop
-put-word-requires c κs = search needs
+slice-aggregate-carry-instruction : tie.Need-slice-aggregate-carry-instruction Inv-loop μ-loop
+slice-aggregate-carry-instruction c = sym (c .before .before .before .before .before .before .before .before .before .before .before .before .loop .inv (c .before .before .before .before .before .before .before .before .before .before .before .before .before .before .before .before .before .pre) .size)
 
-mul-carry-operands : tie.Need-mul-carry-operands Inv-loop μ-loop
-mul-carry-operands c = omega (arith, c .before .before .before .before .before .before .shared-slice-known4 .given (c .before .before .before .before .before .before .before .before .before .before .before .before .before .loop .at))
-
-element-copy-out-carry-operands : tie.Need-element-copy-out-carry-operands Inv-loop μ-loop
-element-copy-out-carry-operands c = c .before .before .before .before .before .before .shared-slice-known4 .given (c .before .before .before .before .before .before .before .before .before .before .before .before .before .loop .at) .fits
-
-slice-aggregate-carry-operands : tie.Need-slice-aggregate-carry-operands Inv-loop μ-loop
-slice-aggregate-carry-operands c = search needs
-
-carry-operands-requires : tie.Need-carry-operands-requires Inv-loop μ-loop
-carry-operands-requires c κs =
-    let room = roomy _ _ _ _ _ _ _ _ _ _ _ _ _ _ _ _ (c .before .before .before .before .before .before .before .before .before .before .before .before .before .before .before .loop .inv (c .before .before .before .before .before .before .before .before .before .before .before .before .before .before .before .before .before .before .before .before .pre)) (c .before .before .before .before .before .before .before .before .before .before .before .make-room .ensures) in
-    (planning _ _ _ _ _ _ _ _ _ _ _ _ _ _ _ _ (room .1) (c .before .before .before .before .before .before .before .before .before .before .before .before .before .before .loop-test .taken) (c .before .before .before .before .before .before .before .before .shared-slice-known4 .given (c .before .before .before .before .before .before .before .before .before .before .before .before .before .before .before .loop .at) .fits) (c .before .before .before .before .before .before .before .before .before .before .before .before .before .before .before .before .before .before .before .before .pre .ready) (c .before .before .before .before .before .before .before .before .before .before .before .before .before .before .before .before .before .before .before .before .args .plans .now) (c .before .before .before .before .before .before .before .before .before .before .before .before .before .before .before .before .before .before .before .before .pre .plans-are), c .before .before .before .before .before .before .before .before .before .before .before .before .before .before .before .before .before .before .before .before .pre .ready .few, omega (arith, c .before .before .before .before .before .before .before .before .before .before .before .before .before .before .before .loop .inv (c .before .before .before .before .before .before .before .before .before .before .before .before .before .before .before .before .before .before .before .before .pre) .small, c .before .before .before .before .before .before .before .before .before .before .before .before .before .before .before .loop .inv (c .before .before .before .before .before .before .before .before .before .before .before .before .before .before .before .before .before .before .before .before .pre) .inside, c .before .before .before .before .before .before .before .before .before .before .before .before .before .before .before .before .before .before .before .before .pre .ready .few))
+carry-instruction-requires : tie.Need-carry-instruction-requires Inv-loop μ-loop
+carry-instruction-requires c κs =
+    let room = roomy _ _ _ _ _ _ _ _ _ _ _ _ _ _ _ _ (c .before .before .before .before .before .before .before .before .before .before .before .before .loop .inv (c .before .before .before .before .before .before .before .before .before .before .before .before .before .before .before .before .before .pre)) (c .before .before .before .before .before .before .before .before .make-room .ensures) in
+    (planned-here _ _ _ _ _ _ _ _ _ _ _ _ _ _ _ _ (room .1) (c .before .before .before .before .before .before .before .before .before .before .before .loop-test .taken) (c .before .before .before .before .before .shared-slice-known4 .given (c .before .before .before .before .before .before .before .before .before .before .before .before .loop .at) .fits) (c .before .before .before .before .before .before .before .before .before .before .before .before .before .before .before .before .before .pre .ready) (c .before .before .before .before .before .before .before .before .before .before .before .before .before .before .before .before .before .args .plans .now) (c .before .before .before .before .before .before .before .before .before .before .before .before .before .before .before .before .before .pre .plans-are), c .before .before .before .before .before .before .before .before .before .before .before .before .before .before .before .before .before .pre .ready .few, omega (arith, c .before .before .before .before .before .before .before .before .before .before .before .before .loop .inv (c .before .before .before .before .before .before .before .before .before .before .before .before .before .before .before .before .before .pre) .small, c .before .before .before .before .before .before .before .before .before .before .before .before .loop .inv (c .before .before .before .before .before .before .before .before .before .before .before .before .before .before .before .before .before .pre) .inside, c .before .before .before .before .before .before .before .before .before .before .before .before .before .before .before .before .before .pre .ready .few))
 
 enum-known-r : tie.Need-enum-known-r Inv-loop μ-loop
 enum-known-r c = search needs
@@ -95,42 +86,42 @@ enum-known-r-2 c = search needs
 
 same-length-3 : tie.Need-same-length-3 Inv-loop μ-loop
 same-length-3 c =
-    let room = roomy _ _ _ _ _ _ _ _ _ _ _ _ _ _ _ _ (c .before .before .before .before .before .before .before .before .before .before .before .before .before .before .before .before .before .before .before .before .loop .inv (c .before .before .before .before .before .before .before .before .before .before .before .before .before .before .before .before .before .before .before .before .before .before .before .before .before .pre)) (c .before .before .before .before .before .before .before .before .before .before .before .before .before .before .before .before .make-room .ensures) in
+    let room = roomy _ _ _ _ _ _ _ _ _ _ _ _ _ _ _ _ (c .before .before .before .before .before .before .before .before .before .before .before .before .before .before .before .before .before .loop .inv (c .before .before .before .before .before .before .before .before .before .before .before .before .before .before .before .before .before .before .before .before .before .before .pre)) (c .before .before .before .before .before .before .before .before .before .before .before .before .before .make-room .ensures) in
     room .1 .same
 
 returns-3 : tie.Need-returns-3 Inv-loop μ-loop
 returns-3 c = λ g.
-    let room = roomy _ _ _ _ _ _ _ _ _ _ _ _ _ _ _ _ (c .before .before .before .before .before .before .before .before .before .before .before .before .before .before .before .before .before .before .before .before .loop .inv g) (c .before .before .before .before .before .before .before .before .before .before .before .before .before .before .before .before .make-room .ensures) in
-    bad _ _ _ _ _ _ _ _ _ _ _ _ _ _ _ _ (room .1) (c .before .before .before .before .before .before .before .before .before .before .before .before .before .before .before .before .before .before .before .loop-test .taken) (c .before .before .before .before .before .before .before .before .before .before .before .before .before .shared-slice-known4 .given (c .before .before .before .before .before .before .before .before .before .before .before .before .before .before .before .before .before .before .before .before .loop .at) .fits) (c .before .before .before .before .before .before .before .before .before .before .if2 .left) _ _ (c .before .before .before .before .before .before .before .before .put-word .ensures) _ _ (c .before .before .before .before .carry-operands .ensures (planning _ _ _ _ _ _ _ _ _ _ _ _ _ _ _ _ (room .1) (c .before .before .before .before .before .before .before .before .before .before .before .before .before .before .before .before .before .before .before .loop-test .taken) (c .before .before .before .before .before .before .before .before .before .before .before .before .before .shared-slice-known4 .given (c .before .before .before .before .before .before .before .before .before .before .before .before .before .before .before .before .before .before .before .before .loop .at) .fits) (g .ready) (c .before .before .before .before .before .before .before .before .before .before .before .before .before .before .before .before .before .before .before .before .before .before .before .before .before .args .plans .now) (g .plans-are))) _ _ (c .before .r2 .given .1) (g .ready)
+    let room = roomy _ _ _ _ _ _ _ _ _ _ _ _ _ _ _ _ (c .before .before .before .before .before .before .before .before .before .before .before .before .before .before .before .before .before .loop .inv g) (c .before .before .before .before .before .before .before .before .before .before .before .before .before .make-room .ensures) in
+    bad _ _ _ _ _ _ _ _ _ _ _ _ _ _ _ _ (room .1) (c .before .before .before .before .before .before .before .before .before .before .before .before .before .before .before .before .loop-test .taken) (c .before .before .before .before .before .before .before .before .before .before .shared-slice-known4 .given (c .before .before .before .before .before .before .before .before .before .before .before .before .before .before .before .before .before .loop .at) .fits) (c .before .before .before .before .before .before .before .before .if1 .left, c .before .before .before .before .before .before .before .if2 .left) _ _ (c .before .before .before .before .carry-instruction .ensures (planned-here _ _ _ _ _ _ _ _ _ _ _ _ _ _ _ _ (room .1) (c .before .before .before .before .before .before .before .before .before .before .before .before .before .before .before .before .loop-test .taken) (c .before .before .before .before .before .before .before .before .before .before .shared-slice-known4 .given (c .before .before .before .before .before .before .before .before .before .before .before .before .before .before .before .before .before .loop .at) .fits) (g .ready) (c .before .before .before .before .before .before .before .before .before .before .before .before .before .before .before .before .before .before .before .before .before .before .args .plans .now) (g .plans-are))) _ _ (c .before .r2 .given .1) (g .ready)
 
 array-read-new : tie.Need-array-read-new Inv-loop μ-loop
 array-read-new c = search needs
 
 add-new : tie.Need-add-new Inv-loop μ-loop
 add-new c =
-    let room = roomy _ _ _ _ _ _ _ _ _ _ _ _ _ _ _ _ (c .before .before .before .before .before .before .before .before .before .before .before .before .before .before .before .before .before .before .before .before .before .loop .inv (c .before .before .before .before .before .before .before .before .before .before .before .before .before .before .before .before .before .before .before .before .before .before .before .before .before .before .pre)) (c .before .before .before .before .before .before .before .before .before .before .before .before .before .before .before .before .before .make-room .ensures) in
-    omega (arith, c .before .before .before .before .before .before .before .before .before .before .before .before .before .before .before .before .before .before .before .before .before .loop .inv (c .before .before .before .before .before .before .before .before .before .before .before .before .before .before .before .before .before .before .before .before .before .before .before .before .before .before .pre) .small, c .before .before .before .before .before .before .before .before .before .before .before .before .before .before .before .before .before .before .before .before .before .loop .inv (c .before .before .before .before .before .before .before .before .before .before .before .before .before .before .before .before .before .before .before .before .before .before .before .before .before .before .pre) .inside, c .before .before .before .before .before .before .before .before .before .before .before .before .before .before .before .before .before .before .before .before .before .before .before .before .before .before .pre .ready .few, here _ _ _ _ _ _ _ _ _ _ _ _ _ _ _ _ (room .1) (c .before .before .before .before .before .before .before .before .before .before .before .before .before .before .before .before .before .before .before .before .loop-test .taken) (c .before .before .before .before .before .before .before .before .before .before .before .before .before .before .shared-slice-known4 .given (c .before .before .before .before .before .before .before .before .before .before .before .before .before .before .before .before .before .before .before .before .before .loop .at) .fits) (c .before .before .before .before .before .before .before .before .before .before .before .before .before .before .before .before .before .before .before .before .before .before .before .before .before .before .pre .ready))
+    let room = roomy _ _ _ _ _ _ _ _ _ _ _ _ _ _ _ _ (c .before .before .before .before .before .before .before .before .before .before .before .before .before .before .before .before .before .before .loop .inv (c .before .before .before .before .before .before .before .before .before .before .before .before .before .before .before .before .before .before .before .before .before .before .before .pre)) (c .before .before .before .before .before .before .before .before .before .before .before .before .before .before .make-room .ensures) in
+    omega (arith, c .before .before .before .before .before .before .before .before .before .before .before .before .before .before .before .before .before .before .loop .inv (c .before .before .before .before .before .before .before .before .before .before .before .before .before .before .before .before .before .before .before .before .before .before .before .pre) .small, c .before .before .before .before .before .before .before .before .before .before .before .before .before .before .before .before .before .before .loop .inv (c .before .before .before .before .before .before .before .before .before .before .before .before .before .before .before .before .before .before .before .before .before .before .before .pre) .inside, c .before .before .before .before .before .before .before .before .before .before .before .before .before .before .before .before .before .before .before .before .before .before .before .pre .ready .few, here _ _ _ _ _ _ _ _ _ _ _ _ _ _ _ _ (room .1) (c .before .before .before .before .before .before .before .before .before .before .before .before .before .before .before .before .before .loop-test .taken) (c .before .before .before .before .before .before .before .before .before .before .before .shared-slice-known4 .given (c .before .before .before .before .before .before .before .before .before .before .before .before .before .before .before .before .before .before .loop .at) .fits) (c .before .before .before .before .before .before .before .before .before .before .before .before .before .before .before .before .before .before .before .before .before .before .before .pre .ready))
 
 array-read-at : tie.Need-array-read-at Inv-loop μ-loop
 array-read-at c = search needs
 
 add-at : tie.Need-add-at Inv-loop μ-loop
 add-at c =
-    let room = roomy _ _ _ _ _ _ _ _ _ _ _ _ _ _ _ _ (c .before .before .before .before .before .before .before .before .before .before .before .before .before .before .before .before .before .before .before .before .before .loop .inv (c .before .before .before .before .before .before .before .before .before .before .before .before .before .before .before .before .before .before .before .before .before .before .before .before .before .before .pre)) (c .before .before .before .before .before .before .before .before .before .before .before .before .before .before .before .before .before .make-room .ensures) in
-    omega (arith, c .before .before .before .before .before .before .before .before .before .before .before .before .before .before .before .before .before .before .before .before .before .before .before .before .before .before .pre .ready .few, here _ _ _ _ _ _ _ _ _ _ _ _ _ _ _ _ (room .1) (c .before .before .before .before .before .before .before .before .before .before .before .before .before .before .before .before .before .before .before .before .loop-test .taken) (c .before .before .before .before .before .before .before .before .before .before .before .before .before .before .shared-slice-known4 .given (c .before .before .before .before .before .before .before .before .before .before .before .before .before .before .before .before .before .before .before .before .before .loop .at) .fits) (c .before .before .before .before .before .before .before .before .before .before .before .before .before .before .before .before .before .before .before .before .before .before .before .before .before .before .pre .ready))
+    let room = roomy _ _ _ _ _ _ _ _ _ _ _ _ _ _ _ _ (c .before .before .before .before .before .before .before .before .before .before .before .before .before .before .before .before .before .before .loop .inv (c .before .before .before .before .before .before .before .before .before .before .before .before .before .before .before .before .before .before .before .before .before .before .before .pre)) (c .before .before .before .before .before .before .before .before .before .before .before .before .before .before .make-room .ensures) in
+    omega (arith, c .before .before .before .before .before .before .before .before .before .before .before .before .before .before .before .before .before .before .before .before .before .before .before .pre .ready .few, here _ _ _ _ _ _ _ _ _ _ _ _ _ _ _ _ (room .1) (c .before .before .before .before .before .before .before .before .before .before .before .before .before .before .before .before .before .loop-test .taken) (c .before .before .before .before .before .before .before .before .before .before .before .shared-slice-known4 .given (c .before .before .before .before .before .before .before .before .before .before .before .before .before .before .before .before .before .before .loop .at) .fits) (c .before .before .before .before .before .before .before .before .before .before .before .before .before .before .before .before .before .before .before .before .before .before .before .pre .ready))
 
 add-i : tie.Need-add-i Inv-loop μ-loop
-add-i c = omega (arith, c .before .before .before .before .before .before .before .before .before .before .before .before .before .before .before .before .before .before .before .before .before .loop .inv (c .before .before .before .before .before .before .before .before .before .before .before .before .before .before .before .before .before .before .before .before .before .before .before .before .before .before .pre) .below, c .before .before .before .before .before .before .before .before .before .before .before .before .before .before .before .before .before .before .before .before .before .loop .inv (c .before .before .before .before .before .before .before .before .before .before .before .before .before .before .before .before .before .before .before .before .before .before .before .before .before .before .pre) .inside, c .before .before .before .before .before .before .before .before .before .before .before .before .before .before .before .before .before .before .before .before .before .before .before .before .before .before .pre .ready .few)
+add-i c = omega (arith, c .before .before .before .before .before .before .before .before .before .before .before .before .before .before .before .before .before .before .loop .inv (c .before .before .before .before .before .before .before .before .before .before .before .before .before .before .before .before .before .before .before .before .before .before .before .pre) .below, c .before .before .before .before .before .before .before .before .before .before .before .before .before .before .before .before .before .before .loop .inv (c .before .before .before .before .before .before .before .before .before .before .before .before .before .before .before .before .before .before .before .before .before .before .before .pre) .inside, c .before .before .before .before .before .before .before .before .before .before .before .before .before .before .before .before .before .before .before .before .before .before .before .pre .ready .few)
 
 loop-less : tie.Need-loop-less Inv-loop μ-loop
 loop-less c =
-    let room = roomy _ _ _ _ _ _ _ _ _ _ _ _ _ _ _ _ (c .before .before .before .before .before .before .before .before .before .before .before .before .before .before .before .before .before .before .before .before .before .loop .inv (c .before .before .before .before .before .before .before .before .before .before .before .before .before .before .before .before .before .before .before .before .before .before .before .before .before .before .pre)) (c .before .before .before .before .before .before .before .before .before .before .before .before .before .before .before .before .before .make-room .ensures) in
-    omega (arith, here _ _ _ _ _ _ _ _ _ _ _ _ _ _ _ _ (room .1) (c .before .before .before .before .before .before .before .before .before .before .before .before .before .before .before .before .before .before .before .before .loop-test .taken) (c .before .before .before .before .before .before .before .before .before .before .before .before .before .before .shared-slice-known4 .given (c .before .before .before .before .before .before .before .before .before .before .before .before .before .before .before .before .before .before .before .before .before .loop .at) .fits) (c .before .before .before .before .before .before .before .before .before .before .before .before .before .before .before .before .before .before .before .before .before .before .before .before .before .before .pre .ready))
+    let room = roomy _ _ _ _ _ _ _ _ _ _ _ _ _ _ _ _ (c .before .before .before .before .before .before .before .before .before .before .before .before .before .before .before .before .before .before .loop .inv (c .before .before .before .before .before .before .before .before .before .before .before .before .before .before .before .before .before .before .before .before .before .before .before .pre)) (c .before .before .before .before .before .before .before .before .before .before .before .before .before .before .make-room .ensures) in
+    omega (arith, here _ _ _ _ _ _ _ _ _ _ _ _ _ _ _ _ (room .1) (c .before .before .before .before .before .before .before .before .before .before .before .before .before .before .before .before .before .loop-test .taken) (c .before .before .before .before .before .before .before .before .before .before .before .shared-slice-known4 .given (c .before .before .before .before .before .before .before .before .before .before .before .before .before .before .before .before .before .before .loop .at) .fits) (c .before .before .before .before .before .before .before .before .before .before .before .before .before .before .before .before .before .before .before .before .before .before .before .pre .ready))
 
 loop-again : tie.Need-loop-again Inv-loop μ-loop
 loop-again c = λ g.
-    let room = roomy _ _ _ _ _ _ _ _ _ _ _ _ _ _ _ _ (c .before .before .before .before .before .before .before .before .before .before .before .before .before .before .before .before .before .before .before .before .before .loop .inv g) (c .before .before .before .before .before .before .before .before .before .before .before .before .before .before .before .before .before .make-room .ensures) in
-    turn _ _ _ _ _ _ _ _ _ _ _ _ _ _ _ _ (room .1) (c .before .before .before .before .before .before .before .before .before .before .before .before .before .before .before .before .before .before .before .before .loop-test .taken) (c .before .before .before .before .before .before .before .before .before .before .before .before .before .before .shared-slice-known4 .given (c .before .before .before .before .before .before .before .before .before .before .before .before .before .before .before .before .before .before .before .before .before .loop .at) .fits) (c .before .before .before .before .before .before .before .before .before .before .before .if2 .left) _ _ (c .before .before .before .before .before .before .before .before .before .put-word .ensures) _ _ (c .before .before .before .before .before .carry-operands .ensures (planning _ _ _ _ _ _ _ _ _ _ _ _ _ _ _ _ (room .1) (c .before .before .before .before .before .before .before .before .before .before .before .before .before .before .before .before .before .before .before .before .loop-test .taken) (c .before .before .before .before .before .before .before .before .before .before .before .before .before .before .shared-slice-known4 .given (c .before .before .before .before .before .before .before .before .before .before .before .before .before .before .before .before .before .before .before .before .before .loop .at) .fits) (g .ready) (c .before .before .before .before .before .before .before .before .before .before .before .before .before .before .before .before .before .before .before .before .before .before .before .before .before .before .args .plans .now) (g .plans-are))) (g .ready) (room .0) (c .before .before .before .before .before .carry-operands .kept .1 .1 .1 .1 .1 .1 .0) _ _ (c .before .before .r .given .1) _ (c .keep-first .ensures)
+    let room = roomy _ _ _ _ _ _ _ _ _ _ _ _ _ _ _ _ (c .before .before .before .before .before .before .before .before .before .before .before .before .before .before .before .before .before .before .loop .inv g) (c .before .before .before .before .before .before .before .before .before .before .before .before .before .before .make-room .ensures) in
+    turn _ _ _ _ _ _ _ _ _ _ _ _ _ _ _ _ (room .1) (c .before .before .before .before .before .before .before .before .before .before .before .before .before .before .before .before .before .loop-test .taken) (c .before .before .before .before .before .before .before .before .before .before .before .shared-slice-known4 .given (c .before .before .before .before .before .before .before .before .before .before .before .before .before .before .before .before .before .before .loop .at) .fits) (c .before .before .before .before .before .before .before .before .before .if1 .left, c .before .before .before .before .before .before .before .before .if2 .left) _ _ (c .before .before .before .before .before .carry-instruction .ensures (planned-here _ _ _ _ _ _ _ _ _ _ _ _ _ _ _ _ (room .1) (c .before .before .before .before .before .before .before .before .before .before .before .before .before .before .before .before .before .loop-test .taken) (c .before .before .before .before .before .before .before .before .before .before .before .shared-slice-known4 .given (c .before .before .before .before .before .before .before .before .before .before .before .before .before .before .before .before .before .before .loop .at) .fits) (g .ready) (c .before .before .before .before .before .before .before .before .before .before .before .before .before .before .before .before .before .before .before .before .before .before .before .args .plans .now) (g .plans-are))) (g .ready) (room .0) (c .before .before .before .before .before .carry-instruction .kept .1 .1 .1 .1 .1 .1 .1 .0) _ _ (c .before .before .r .given .1) _ (c .keep-first .ensures)
 
 sub-put-bytes : tie.Need-sub-put-bytes Inv-loop μ-loop
 sub-put-bytes c = search needs
@@ -171,13 +162,10 @@ carry-instructions-spec =
     returns
     same-length-2
     returns-2
-    array-read-opcode
-    slice-aggregate-put-word
-    put-word-requires
-    mul-carry-operands
-    element-copy-out-carry-operands
-    slice-aggregate-carry-operands
-    carry-operands-requires
+    mul-carry-instruction
+    element-copy-out-carry-instruction
+    slice-aggregate-carry-instruction
+    carry-instruction-requires
     enum-known-r
     keep-first-requires
     enum-known-r-2

@@ -183,8 +183,8 @@ struct desk_answer desk_list_module(const uint8_t *sheet, size_t sheet_len, cons
 
 /* Assembles a text into a body. length counts the bytes, and a refusal's place is the text's line. One label entry of
    three words is needed for each label line that an instruction takes.
-   Stack 859 KiB, time 4.5 to 7.7 ms. Of labels with a number past 32 bits, which no listing has, only the first 22,400 are found
-   quickly where fewer entries are lent than there are such labels; a text of 962,000 bytes made of more took two minutes. */
+   Stack 1,002 KiB, time 4.5 to 7.7 ms. Where fewer entries are lent than a text has labels with a number past 32 bits, which no
+   listing has, its names are read a second time to find them, so that it takes up to half as long again. */
 struct desk_answer desk_assemble(const uint8_t *sheet, size_t sheet_len, const uint8_t *bytes, size_t bytes_len,
                                  const uint32_t *ends, size_t ends_len, const uint8_t *text, size_t text_len,
                                  uint8_t *out, size_t out_len, uint32_t (*labels)[3], size_t labels_len);

@@ -2,11 +2,12 @@
 use mathlib.Core.Path.{_≡_, refl, sym, _∙_}
 use mathlib.Core.List.{List, [], _∷_}
 use mathlib.Core.Bool.{Bool, true, false}
-use Prim.Native.Nat.{ℕ, _≤_}
+use Prim.Native.Nat.{ℕ, _≤_, _<_}
 use native.Mathlib.Omega.{arith}
 use lib.ListN.{length, take}
 use lib.Seq.{take-all}
-use Rattle.lists.proofs.Tests.{true-not-false}
+use Rattle.lists.specs.Choice.{pick}
+use Rattle.lists.proofs.Tests.{by-test}
 use Rattle.answers.specs.Report.{zeros}
 use Rattle.answers.specs.Refusals.{refusalReport}
 use Rattle.answers.specs.Outcome.{Ended}
@@ -17,11 +18,11 @@ use Rattle.spec_hasm.specs.Text.{linesOf}
 use Rattle.spec_hasm.specs.Assemble.{Assembled, codesOf, unlessBadLine, unlessBadName, labelsFrom, bytesFrom, assembleCodes, assembleText}
 use Rattle.spec_hasm.specs.Assemble.Assembled.{notAssembled}
 use Rattle.spec_hasm.specs.Operation.{assembleOutcome}
+use Rattle.hasm_labels.specs.Slots.{labelsIn}
 use Rattle.hasm_labels.specs.LongLabels.{bareLabel, longOf}
 use Rattle.hasm_labels.specs.Keys.{LabelsIndexed}
 use Rattle.hasm_labels.specs.Labelled.{Labelled}
 use Rattle.hasm_labels.specs.NamesRead.{AllNamed}
-use Rattle.hasm_labels.specs.declared.label_target.Known.{Known}
 use Rattle.hasm_labels.specs.declared.names_pass.Taken.{Taken}
 use Rattle.operation.specs.Ends.{measuredOf, leftBy, measuredReport}
 use Rattle.operation.specs.declared.ending.Measured.{Measured}
@@ -36,20 +37,19 @@ pub good-text : (e : Context) (text : List ℕ) → ((rest : Assembled) → unle
 unfolding assembleText assembleCodes
 good-text e text l n = l _ ∙ n _
 
--- what is known of the labels, from the slots that hold the long ones where they fit; then with an index of them
-module _ {e : Context} {text : List ℕ} {slots held : List (List ℕ)} {taken : Taken} (n : Named e text taken slots) where
-  pub listed : (fits : Bool) → (fits ≡ true → taken .kept ≤ length slots) → (taken .kept ≤ length slots → held ≡ take (taken .kept) slots)
-      → Labelled e text held [] (record { listed = fits; indexed = false; has = taken .has; place = taken .place })
-  listed fits f h = record {
+-- what is known of the labels, with an index of the long ones where it is whole
+module _ {e : Context} {text : List ℕ} {slots : List (List ℕ)} {taken : Taken} (n : Named e text taken slots) where
+  pub known-by : {index : List ℕ} {m heads : ℕ} {owned : Bool} (whole : Bool) → heads ≡ pick whole m 0 → (whole ≡ true → LabelsIndexed owned text slots index m (longOf (labelsFrom e 0 (codesOf e text))))
+      → Labelled e text slots index (record { heads = heads; owned = owned; has = taken .has; place = taken .place })
+  known-by whole h f = record {
     named = n .named;
-    whole = λ t. let fit = f t in rw (h fit) (n .held fit);
-    chained = λ t. true-not-false false t refl;
+    indexed = λ l. by-test whole (λ w. rw (h, w) (f w)) (λ w. absurd (omega (arith, l, rw w at h)));
     bare = n .bare;
   }
 
-pub with-index : {e : Context} {text : List ℕ} {slots : List (List ℕ)} {known : Known} {index : List ℕ} (indexed : Bool) → Labelled e text slots [] known → (indexed ≡ true → LabelsIndexed text slots index)
-    → Labelled e text slots index (record { listed = known .listed; indexed = indexed; has = known .has; place = known .place })
-with-index indexed l h = record { named = l .named; whole = l .whole; chained = h; bare = l .bare }
+  -- the slots hold the long labels, where they fit
+  pub known-slots : {index : List ℕ} {m : ℕ} → taken .kept ≤ length slots → LabelsIndexed false text slots index m (labelsIn text (take (taken .kept) slots)) → LabelsIndexed false text slots index m (longOf (labelsFrom e 0 (codesOf e text)))
+  known-slots l i = rw (n .held l) at i
 
 -- the answer and the output of a text whose instructions x were written and measured
 pub body-end : {x : Assembled} {before now after : List ℕ} (entries k count room : ℕ) (m : Measured) → BodyPut x before now k → count ≡ entries → m ≡ measuredOf k 65536 count room (length now) → after ≡ leftBy m now
@@ -64,7 +64,7 @@ unfolding assembleOutcome
 refused-text {y = y} {before} {room} {after} entries e z = refused-end _ y before room after _ (rw e refl) refl z
 
 -- the names of a text, from the pass's answer
-pub were-good : {e : Context} {text : List ℕ} {slots slots′ : List (List ℕ)} {taken : Taken} → AllNamed e text bareLabel slots slots′ taken → Named e text taken slots′
+pub were-good : {e : Context} {text : List ℕ} {slots slots′ : List (List ℕ)} {m : ℕ} {index : List ℕ} {taken : Taken} → AllNamed e text bareLabel slots slots′ m index taken → Named e text taken slots′
 were-good {e} {text} {slots} {slots′} h = record {
   named = h .named;
   counted = h .counted;

@@ -31,7 +31,7 @@ pub(crate) fn put_instructions(
     ops: &[[usize; 4]; 256],
     names: &[u32],
     labels: &[Slot],
-    index: &[u32],
+    index: &[u64],
     known: Known,
     work: &mut [u8],
     out: &mut [u8],

@@ -49,7 +49,7 @@ pub(crate) fn put_operands(
     ops: &[[usize; 4]; 256],
     names: &[u32],
     labels: &[Slot],
-    index: &[u32],
+    index: &[u64],
     known: Known,
     work: &mut [u8],
     out: &mut [u8],

@@ -98,7 +98,18 @@ fn name_and_put(
 {
     let mut names = name_space();
     sheet::name_index::index_names(sheet, ops, &mut names);
-    let n = hasm_labels::names_pass::read_names(text, sheet, types, ops, &names, labels, b"L");
+    let mut none: [u64; 0] = [];
+    let n = hasm_labels::names_pass::read_names(
+        text,
+        sheet,
+        types,
+        ops,
+        &names,
+        labels,
+        b"L",
+        &mut none,
+        0,
+    );
     match n {
         Names::Good(taken) => {
             let a = put_indexed(

@@ -74,7 +74,7 @@ fn target_distance(
     ops: &[[usize; 4]; 256],
     names: &[u32],
     labels: &[Slot],
-    index: &[u32],
+    index: &[u64],
     known: Known,
 ) -> Value
     requires { ⌜ (offset < 2 ^ 32) × LabelsKnown (now text) (now sheet) (now types) (now ops) (now names) (now labels) (now index) known ⌝ }
@@ -105,7 +105,7 @@ pub(crate) fn operand_value(
     ops: &[[usize; 4]; 256],
     names: &[u32],
     labels: &[Slot],
-    index: &[u32],
+    index: &[u64],
     known: Known,
     work: &mut [u8],
 ) -> Value

@@ -14,7 +14,8 @@ use Rattle.lists.proofs.Tests.{by-test, by-leb, true-not-false}
 use Rattle.spec_hasm.specs.Assemble.{LabelLine, LabelAt, holding, labelOffset}
 use Rattle.hasm_labels.specs.Slots.{labelIn, labelsIn}
 use Rattle.hasm_labels.specs.LongLabels.{isLong, longOf}
-use Rattle.hasm_labels.specs.Holding.{Waits, Noted, Held}
+use Rattle.hasm_labels.specs.Holding.{waitingLabel, Waits, Noted, LongMore, Held}
+use Rattle.hasm_labels.specs.Holding.LongMore.{none, one}
 use Rattle.hasm_labels.specs.declared.hold_label.Progress.{Progress}
 use Rattle.hasm_labels.proofs.LabelLaws.{offset-more, labels-more}
 use Rattle.hasm_labels.proofs.LongLaws.{long-more, long-same}
@@ -29,17 +30,14 @@ pub held-none : (text t : List ℕ) (slots : List (List ℕ)) (p : Progress) →
 held-none text t slots p e =
     record {
       noted = λ slots₀ w u labels h. rw (holding-none text p w u e, append-nil labels) h;
+      long = λ w u labels. none refl (ap longOf (ap (λ (ls : List LabelAt). labels ++ ls) (holding-none text p w u e) ∙ append-nil labels));
       offset = refl;
       count = omega arith;
       kept = omega arith;
       place = λ n a b. b;
     }
 
--- the label that waits, at its offset
-abbrev taken : List ℕ → Progress → LabelAt
-taken text p = record { text = part text (p .start) (p .size); offset = p .offset }
-
-holding-one : (text : List ℕ) (p : Progress) (w : List LabelLine) → Waits text p w → p .waits ≡ true → holding w (p .offset) [] ≡ taken text p ∷ []
+holding-one : (text : List ℕ) (p : Progress) (w : List LabelLine) → Waits text p w → p .waits ≡ true → holding w (p .offset) [] ≡ waitingLabel text p ∷ []
 unfolding holding
 holding-one text p [] h e = true-not-false (p .waits) e h
 holding-one text p (l ∷ ls) h e = rw (h .1) refl
@@ -77,25 +75,32 @@ module _ (text t : List ℕ) (slots slots′ : List (List ℕ)) (p p′ : Progre
     at-most : p′ .kept ≤ p .kept + 1
     at-most = by-test (isLong ownText) (λ e. omega (arith, rw e at k)) (λ e. omega (arith, rw e at k))
 
+    long-one : (waiting : List LabelLine) → Waits text p waiting → (labels : List LabelAt) → LongMore text p p′ (longOf labels) (longOf (labels ++ holding waiting (p .offset) []))
+    long-one waiting u labels =
+        rw (holding-one text p waiting u w)
+        (by-test (isLong ownText)
+        (λ e. one (rw e at k) (long-more (waitingLabel text p) e labels))
+        (λ e. none (rw e at k) (long-same (waitingLabel text p) e labels)))
+
     one-more : (slots₀ : List (List ℕ)) (waiting : List LabelLine) → Waits text p waiting → (labels : List LabelAt) → Noted text t slots₀ labels p slots
-        → labelOffset (labels ++ (taken text p ∷ [])) t ≡ pick (p′ .has) (found (p′ .place)) missing → Noted text t slots₀ (labels ++ holding waiting (p .offset) []) p′ slots′
+        → labelOffset (labels ++ (waitingLabel text p ∷ [])) t ≡ pick (p′ .has) (found (p′ .place)) missing → Noted text t slots₀ (labels ++ holding waiting (p .offset) []) p′ slots′
     one-more slots₀ waiting u labels h l =
-        let counted = c ∙ ap (λ (n : ℕ). n + 1) (h .counted) ∙ sym (length-append labels (taken text p ∷ [])) in
+        let counted = c ∙ ap (λ (n : ℕ). n + 1) (h .counted) ∙ sym (length-append labels (waitingLabel text p ∷ [])) in
         rw (holding-one text p waiting u w)
         (by-test (isLong ownText)
         (λ e.
-        let more = long-more (taken text p) e labels in
+        let more = long-more (waitingLabel text p) e labels in
         let kept = rw e at k in
         let stored = rw e at s in
         record {
           counted = counted;
           last = l;
-          long = rw (more, length-append (longOf labels) (taken text p ∷ []), kept, h .long);
+          long = rw (more, length-append (longOf labels) (waitingLabel text p ∷ []), kept, h .long);
           stored = rw (more, kept, stored, add-one (p .kept)) (stored-more text slots (longOf labels) own (p .kept) (h .long) (h .stored));
           behind = rw (kept, stored) (kept-more slots slots₀ own (p .kept) (h .behind));
         })
         (λ e.
-        let more = long-same (taken text p) e labels in
+        let more = long-same (waitingLabel text p) e labels in
         let kept = rw e at k in
         let stored = rw e at s in
         record {
@@ -109,7 +114,8 @@ module _ (text t : List ℕ) (slots slots′ : List (List ℕ)) (p p′ : Progre
     pub held-same : same ownText t ≡ true → p′ .has ≡ true → p′ .place ≡ p .offset → p′ .offset ≡ p .offset → Held text t slots p slots′ p′
     held-same e f g o =
         record {
-          noted = λ slots₀ waiting u labels h. one-more slots₀ waiting u labels h (offset-more labels (taken text p) t ∙ rw (e, f, g));
+          noted = λ slots₀ waiting u labels h. one-more slots₀ waiting u labels h (offset-more labels (waitingLabel text p) t ∙ rw (e, f, g));
+          long = long-one;
           offset = o;
           count = omega (arith, c);
           kept = at-most;
@@ -119,7 +125,8 @@ module _ (text t : List ℕ) (slots slots′ : List (List ℕ)) (p p′ : Progre
     pub held-other : same ownText t ≡ false → p′ .has ≡ p .has → p′ .place ≡ p .place → p′ .offset ≡ p .offset → Held text t slots p slots′ p′
     held-other e f g o =
         record {
-          noted = λ slots₀ waiting u labels h. one-more slots₀ waiting u labels h (offset-more labels (taken text p) t ∙ rw (e, f, g) (h .last));
+          noted = λ slots₀ waiting u labels h. one-more slots₀ waiting u labels h (offset-more labels (waitingLabel text p) t ∙ rw (e, f, g) (h .last));
+          long = long-one;
           offset = o;
           count = omega (arith, c);
           kept = at-most;

@@ -6,4 +6,5 @@ pub mod NameLaws
 pub mod CodeSteps
 pub mod LineTurns
 pub mod NamesLaws
+pub mod OwnLaws
 pub mod TargetLaws

@@ -1,6 +1,6 @@
 -- The pass over all lines: its start and its end. Assumes nothing.
 use mathlib.Core.Path.{_≡_, refl, ap, sym, _∙_}
-use mathlib.Core.Bool.{false}
+use mathlib.Core.Bool.{Bool, true}
 use Prim.Native.Nat.{ℕ, _+_, _≤_, _<_}
 use native.Mathlib.Omega.{arith}
 use mathlib.Core.List.{List, [], _++_, append-nil}
@@ -12,7 +12,9 @@ use Rattle.spec_inputs.specs.Context.{Context}
 use Rattle.spec_hasm.specs.Assemble.{Assembled, Code, LabelAt, codesOf, unlessBadName, labelsFrom, labelOffset}
 use Rattle.hasm_read.specs.Lines.{notFeed, ShortLines}
 use Rattle.hasm_read.proofs.LineLaws.{short-here}
+use Rattle.hasm_labels.specs.Holding.{atStart}
 use Rattle.hasm_labels.specs.Going.{LineAt, Going}
+use Rattle.hasm_labels.specs.Keys.{LabelsIndexed}
 use Rattle.hasm_labels.specs.NamesRead.{AllNamed}
 use Rattle.hasm_labels.specs.declared.hold_label.Progress.{Progress}
 use Rattle.hasm_labels.proofs.CodeSteps.{codes-none}
@@ -20,10 +22,7 @@ use Rattle.hasm_labels.specs.LongLabels.{longOf}
 use Rattle.hasm_labels.proofs.LabelLaws.{offset-none, labels-none}
 use Rattle.hasm_labels.proofs.LongLaws.{long-none}
 
-abbrev atStart : Progress
-atStart = record { waits = false; start = 0; size = 0; count = 0; kept = 0; offset = 0; has = false; place = 0 }
-
-pub going-start : (e : Context) (text t : List ℕ) (slots : List (List ℕ)) → Going e text t slots 0 1 atStart slots
+unfoldable pub going-start : (e : Context) (text t : List ℕ) (slots : List (List ℕ)) → Going e text t slots 0 1 atStart slots
 going-start e text t slots =
     record {
       near = omega arith;
@@ -75,13 +74,18 @@ no-labels : (e : Context) (at : ℕ) → labelsFrom e at [] ≡ []
 unfolding labelsFrom
 no-labels e at = refl
 
-pub going-end : (e : Context) (text t : List ℕ) (slots₀ : List (List ℕ)) (at n : ℕ) (p : Progress) (slots : List (List ℕ)) → Going e text t slots₀ at n p slots → length text ≤ at → length text ≤ textLimit
-    → AllNamed e text t slots₀ slots (record { count = p .count; kept = p .kept; has = p .has; place = p .place })
-going-end e text t slots₀ at n p slots g h s =
+-- behind the last line all labels are taken
+pub going-all : {e : Context} {text t : List ℕ} {slots₀ : List (List ℕ)} {at n : ℕ} {p : Progress} {slots : List (List ℕ)} (g : Going e text t slots₀ at n p slots) → length text ≤ at → labelsFrom e 0 (codesOf e text) ≡ g .taken
+going-all {e} {text} {at = at} {n} {p} g h =
+    g .labels ∙ ap (λ (cs : List Code). g .taken ++ labelsFrom e (p .offset) cs) (codes-none e n (g .waiting) text at h)
+    ∙ ap (λ (ls : List LabelAt). g .taken ++ ls) (no-labels e (p .offset)) ∙ append-nil (g .taken)
+
+pub going-end : (e : Context) (text t : List ℕ) (slots₀ : List (List ℕ)) (at n : ℕ) (p : Progress) (slots : List (List ℕ)) (m : ℕ) (whole : Bool) (index : List ℕ) → Going e text t slots₀ at n p slots
+    → (whole ≡ true → (any : List (List ℕ)) → LabelsIndexed true text any index m (longOf (labelsFrom e 0 (codesOf e text)))) → length text ≤ at → length text ≤ textLimit
+    → AllNamed e text t slots₀ slots m index (record { count = p .count; kept = p .kept; indexed = whole; has = p .has; place = p .place })
+going-end e text t slots₀ at n p slots m whole index g i h s =
     let c = codes-none e n (g .waiting) text at h in
-    let l : labelsFrom e 0 (codesOf e text) ≡ g .taken =
-    g .labels ∙ ap (λ (cs : List Code). g .taken ++ labelsFrom e (p .offset) cs) c
-    ∙ ap (λ (ls : List LabelAt). g .taken ++ ls) (no-labels e (p .offset)) ∙ append-nil (g .taken) in
+    let l = going-all g h in
     record {
       named = λ rest. g .names rest ∙ ap (λ (cs : List Code). unlessBadName e cs rest) c ∙ no-names e rest;
       counted = g .noted .counted ∙ ap length (sym l);
@@ -90,4 +94,5 @@ going-end e text t slots₀ at n p slots g h s =
       long = g .noted .long ∙ ap (λ (ls : List LabelAt). length (longOf ls)) (sym l);
       stored = g .noted .stored ∙ ap (λ (ls : List LabelAt). take (length slots) (longOf ls)) (sym l);
       behind = g .noted .behind;
+      indexed = i;
     }

@@ -11,7 +11,8 @@ use Rattle.spec_hasm.specs.Text.{linesOf}
 use Rattle.spec_hasm.specs.Assemble.{Assembled, LabelLine, LabelAt, codesFrom, codesOf, unlessBadName, labelsFrom}
 use Rattle.spec_hasm.specs.Assemble.Assembled.{notAssembled}
 use Rattle.hasm_read.specs.Lines.{notFeed, lineIn}
-use Rattle.hasm_labels.specs.Holding.{Waits, Small, Noted, NotedMore}
+use Rattle.hasm_labels.specs.Holding.{Waits, Small, Noted, NotedMore, LongMore, KeptMore}
+use Rattle.hasm_labels.specs.LongLabels.{longOf}
 use Rattle.hasm_labels.specs.NameReads.{RefusedBy, Sized}
 use Rattle.hasm_labels.specs.declared.hold_label.Progress.{Progress}
 use Rattle.hasm_labels.specs.declared.take_line.Step.{Step}
@@ -29,6 +30,7 @@ pub record Passed (e : Context) (n : ℕ) (s text t : List ℕ) (slots : List (L
   pub offset : p′ .offset ≡ p .offset + bytes
   pub place : (m : ℕ) → p .offset ≤ m → p .place ≤ m → p′ .place ≤ m
   pub noted : NotedMore text t slots p slots′ p′
+  pub long : KeptMore text p p′
 
 -- or it was refused, by 4 or 5
 abbrev pub CodeTaken : Context → ℕ → List ℕ → List ℕ → List ℕ → List (List ℕ) → Progress → List (List ℕ) → Step → Type 0
@@ -62,7 +64,12 @@ pub record Going (e : Context) (text t : List ℕ) (slots₀ : List (List ℕ)) 
   pub labels : labelsFrom e 0 (codesOf e text) ≡ taken ++ labelsFrom e (p .offset) (codesFrom e n waiting (linesOf (drop at text)))
   pub noted : Noted text t slots₀ taken p slots
 
+-- the pass behind a line in front of which it stood at p, with labels taken: it goes on, with one long label more at most
+pub record Behind (e : Context) (text t : List ℕ) (slots₀ : List (List ℕ)) (p : Progress) (taken : List LabelAt) (at n : ℕ) (p′ : Progress) (slots : List (List ℕ)) : Type 0 where
+  pub going : Going e text t slots₀ at n p′ slots
+  pub long : LongMore text p p′ (longOf taken) (longOf (going .taken))
+
 -- the pass behind line n, which ends in front of `at`: it goes on, or the line was refused
-abbrev pub Turned : Context → List ℕ → List ℕ → List (List ℕ) → ℕ → ℕ → Step → List (List ℕ) → Type 0
-Turned e text t slots₀ at n (On p) slots = Going e text t slots₀ at (n + 1) p slots
-Turned e text t slots₀ at n (Refused x) slots = (rest : Assembled) → unlessBadName e (codesOf e text) rest ≡ notAssembled x
+abbrev pub Turned : Context → List ℕ → List ℕ → List (List ℕ) → Progress → List LabelAt → ℕ → ℕ → Step → List (List ℕ) → Type 0
+Turned e text t slots₀ p taken at n (On p′) slots = Behind e text t slots₀ p taken at (n + 1) p′ slots
+Turned e text t slots₀ p taken at n (Refused x) slots = (rest : Assembled) → unlessBadName e (codesOf e text) rest ≡ notAssembled x

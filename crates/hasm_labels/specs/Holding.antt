@@ -12,6 +12,14 @@ use Rattle.hasm_labels.specs.Slots.{labelsIn}
 use Rattle.hasm_labels.specs.LongLabels.{longOf}
 use Rattle.hasm_labels.specs.declared.hold_label.Progress.{Progress}
 
+-- the pass in front of the first line
+abbrev pub atStart : Progress
+atStart = record { waits = false; start = 0; size = 0; count = 0; kept = 0; offset = 0; has = false; place = 0 }
+
+-- the label that waits, at the offset where p stands
+abbrev pub waitingLabel : List ℕ → Progress → LabelAt
+waitingLabel text p = record { text = part text (p .start) (p .size); offset = p .offset }
+
 -- the label lines that wait for an instruction, the nearest first, of which the code knows only that one's text
 abbrev pub Waits : List ℕ → Progress → List LabelLine → Type 0
 Waits text p [] = p .waits ≡ false
@@ -34,6 +42,15 @@ pub record Noted (text t : List ℕ) (slots₀ : List (List ℕ)) (labels : List
   pub stored : labelsIn text (take (p .kept) slots) ≡ take (length slots) (longOf labels)
   pub behind : drop (p .kept) slots ≡ drop (p .kept) slots₀
 
+-- the long labels behind a step: those before it, or with the label that waited behind them
+pub data LongMore (text : List ℕ) (p p′ : Progress) (before after : List LabelAt) : Type 0 where
+  none : p′ .kept ≡ p .kept → after ≡ before → LongMore text p p′ before after
+  one : p′ .kept ≡ p .kept + 1 → after ≡ before ++ (waitingLabel text p ∷ []) → LongMore text p p′ before after
+
+abbrev pub KeptMore : List ℕ → Progress → Progress → Type 0
+KeptMore text p p′ =
+    (waiting : List LabelLine) → Waits text p waiting → (labels : List LabelAt) → LongMore text p p′ (longOf labels) (longOf (labels ++ holding waiting (p .offset) []))
+
 -- with label lines that wait, the nearest one's label is taken, at the offset where p stands
 abbrev pub NotedMore : List ℕ → List ℕ → List (List ℕ) → Progress → List (List ℕ) → Progress → Type 0
 NotedMore text t slots p slots′ p′ =
@@ -43,6 +60,7 @@ NotedMore text t slots p slots′ p′ =
 -- the label that waited is taken, if there was one: "one entry for each label line that an instruction takes"
 pub record Held (text t : List ℕ) (slots : List (List ℕ)) (p : Progress) (slots′ : List (List ℕ)) (p′ : Progress) : Type 0 where
   pub noted : NotedMore text t slots p slots′ p′
+  pub long : KeptMore text p p′
   pub offset : p′ .offset ≡ p .offset
   pub count : p′ .count ≤ p .count + 1
   pub kept : p′ .kept ≤ p .kept + 1

@@ -4,5 +4,6 @@ pub mod LongLabels
 pub mod Keys
 pub mod NameReads
 pub mod Going
+pub mod Owning
 pub mod Labelled
 pub mod NamesRead

@@ -5,7 +5,7 @@ ghost use Prim.Native.Nat.{_+_};
 ghost use lib.ListN.{set};
 ghost use Rattle.lists.specs.Choice.{pick};
 ghost use Rattle.hasm_labels.specs.LongLabels.{isLong};
-ghost use Rattle.hasm_labels.specs.Holding.{Small, Held};
+ghost use Rattle.hasm_labels.specs.Holding.{Small, atStart, Held};
 use crate::label_entry::Entry;
 use crate::label_entry::Slot;
 
@@ -24,6 +24,22 @@ pub struct Progress {
     pub offset: usize,
     pub has: bool,
     pub place: usize,
+}
+
+// The pass in front of the first line.
+pub(crate) fn at_start() -> Progress
+    ensures { λ r. ⌜ r ≡ atStart ⌝ }
+{
+    Progress {
+        waits: false,
+        start: 0,
+        size: 0,
+        count: 0,
+        kept: 0,
+        offset: 0,
+        has: false,
+        place: 0,
+    }
 }
 
 // Stores the label that waits, whose text is s, behind those that are stored, if it is long. Answers how many long ones there are.

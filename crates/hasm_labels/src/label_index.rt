@@ -1,21 +1,48 @@
-// The index is one lent slice: its first eighth has a head for each bucket, and behind them stands a next for each label. It
-// answers what `find_label` answers, and looks only at the labels of one bucket.
+// An index of the long labels, in one lent slice: chains from the last label to the first, as of equal texts the last counts. The
+// labels are held by slots, or where too few are lent by the index's own words.
 ghost use mathlib.Core.Path.{_≡_};
-ghost use mathlib.Core.List.{[]};
-ghost use mathlib.Core.Bool.{true};
-ghost use Prim.Native.Nat.{_+_, _/_, _≤_, _<_, _^_};
-ghost use lib.ListN.{length, getD};
+ghost use mathlib.Core.List.{List, []};
+ghost use mathlib.Core.Bool.{true, false};
+ghost use Prim.Native.Nat.{_+_, _≤_, _<_};
+ghost use lib.ListN.{length, take, getD};
 ghost use Rattle.slices.specs.Answers.{foundOf};
-ghost use Rattle.spec_hasm.specs.Assemble.{labelOffset};
+ghost use Rattle.hash_index.specs.Backward.{keyLimit};
+ghost use Rattle.spec_hasm.specs.Assemble.{LabelAt, labelOffset};
 ghost use Rattle.hasm_labels.specs.Slots.{labelIn, labelsIn};
-ghost use Rattle.hasm_labels.specs.Keys.{labelBuckets, LabelsIndexed};
+ghost use Rattle.hasm_labels.specs.Keys.{labelOf, labelAt, Buckets, LabelsIndexed, AnyIndexed};
 use crate::label_entry::Slot;
+use crate::own_label::LabelPlace;
+use hash_index::backward::next_in;
 use slices::search::Found;
 
-// What share of an index the buckets' heads are.
-const BUCKET_SHARE: usize = 8;
+// Whether an index of so many words, m of them heads, has room for n labels.
+pub(crate) fn has_room(n: usize, words: usize, m: usize) -> bool
+    requires { ⌜ m ≤ words ⌝ }
+    ensures { λ r. ⌜ (r ≡ true → (m + n ≤ words) × (n ≤ keyLimit)) ⌝ }
+{
+    if hash_index::backward::KEY_LIMIT < n {
+        return false;
+    }
+    n <= words - m
+}
 
-// The text of the i-th label.
+// Label i, whose word is given.
+fn label_at(text: &[u8], labels: &[Slot], i: usize, word: u64, owned: bool) -> LabelPlace
+    requires { ⌜ (owned ≡ false → i < length (now labels)) ⌝ }
+    ensures { λ r. ⌜ labelOf (now (text .entry)) r ≡ labelAt owned (now (text .entry)) (now (labels .entry)) i word ⌝ }
+{
+    if owned {
+        return crate::own_label::label_of_word(text, word);
+    }
+    let l = crate::label_entry::slot_at(labels, i);
+    LabelPlace {
+        start: l.start as usize,
+        size: l.size as usize,
+        offset: l.offset as usize,
+    }
+}
+
+// The text of the i-th slot's label.
 fn label_text<'a>(text: &'a [u8], labels: &[Slot], i: usize) -> &'a [u8]
     requires { ⌜ i < length (now labels) ⌝ }
     ensures { λ r. ⌜ now r ≡ labelIn (now (text .entry)) (getD (now (labels .entry)) i []) .text ⌝ }
@@ -24,67 +51,50 @@ fn label_text<'a>(text: &'a [u8], labels: &[Slot], i: usize) -> &'a [u8]
     slices::part::part_of(text, l.start as usize, l.size as usize)
 }
 
-// Puts all labels into chains. Key 0 is the last label, so the first label, which has the last key, is put first.
-fn chain_labels(text: &[u8], labels: &[Slot], index: &mut [u32])
-    requires { ⌜ (0 < labelBuckets (now index)) × (length (now labels) < 2 ^ 32) × (length (now index) < 2 ^ 32) × (labelBuckets (now index) + length (now labels) ≤ length (now index)) ⌝ }
-    ensures { λ _. ⌜ LabelsIndexed (now (text .entry)) (now (labels .entry)) (now (index .exit)) ⌝ }
+// Indexes the labels of the first n slots in m buckets, where there is room for them, and answers whether there was.
+pub fn index_slots(text: &[u8], labels: &[Slot], n: usize, index: &mut [u64], m: usize) -> bool
+    requires { ⌜ (n ≤ length (now labels)) × Buckets m (now index) ⌝ }
+    ensures { λ r. ⌜ (r ≡ true → LabelsIndexed false (now (text .entry)) (now (labels .entry)) (now (index .exit)) m (labelsIn (now (text .entry)) (take n (now (labels .entry))))) ⌝ }
 {
-    let m = index.len() / BUCKET_SHARE;
-    let n = labels.len();
-    hash_index::chain::empty_heads(index, m, n);
-    let mut left = n;
-    while 0 < left {
-        let k = left - 1;
-        let s = label_text(text, labels, n - left);
+    if !has_room(n, index.len(), m) {
+        return false;
+    }
+    hash_index::backward::empty_chains(index, m);
+    let mut k: usize = 0;
+    while k < n {
+        let s = label_text(text, labels, k);
         let h = hash_index::hash::bucket_of(s, m);
-        hash_index::chain::put_in_front(index, m, h, k);
-        left = k;
+        hash_index::backward::put_key(index, m, h, k, 0);
+        k += 1;
     }
-}
-
-// Whether there are labels, n of them, and an index of so many words has room for them.
-fn has_room(n: usize, words: usize) -> bool
-    requires { ⌜ words < 2 ^ 32 ⌝ }
-    ensures { λ r. ⌜ (r ≡ true → (0 < words / 8) × (n < 2 ^ 32) × (words / 8 + n ≤ words)) ⌝ }
-{
-    if n == 0 {
-        return false;
-    }
-    if words < BUCKET_SHARE {
-        return false;
-    }
-    n <= words - words / BUCKET_SHARE
-}
-
-// Indexes the labels, where there are any and the index has room for them, and answers whether it did.
-pub fn index_labels(text: &[u8], labels: &[Slot], index: &mut [u32]) -> bool
-    requires { ⌜ length (now index) < 2 ^ 32 ⌝ }
-    ensures { λ r. ⌜ (r ≡ true → LabelsIndexed (now (text .entry)) (now (labels .entry)) (now (index .exit))) ⌝ }
-{
-    if !has_room(labels.len(), index.len()) {
-        return false;
-    }
-    chain_labels(text, labels, index);
     true
 }
 
-// A label's offset, by its text: the first key of its chain that has the text is the last label that has it.
-pub(crate) fn find_indexed(text: &[u8], labels: &[Slot], index: &[u32], t: &[u8]) -> Found
-    requires { ⌜ LabelsIndexed (now text) (now labels) (now index) ⌝ }
-    ensures { λ r. ⌜ r ≡ foundOf (labelOffset (labelsIn (now (text .entry)) (now (labels .entry))) (now (t .entry))) ⌝ }
+// A label's offset, by its text: the first label of its chain that has the text is the last that has it.
+pub(crate) fn find_indexed(
+    text: &[u8],
+    labels: &[Slot],
+    index: &[u64],
+    m: usize,
+    owned: bool,
+    t: &[u8],
+) -> Found
+    requires { ⌜ AnyIndexed owned (now text) (now labels) (now index) m ⌝ }
+    ensures { λ r. ⌜ ((ls : List LabelAt) → LabelsIndexed owned (now (text .entry)) (now (labels .entry)) (now (index .entry)) m ls → r ≡ foundOf (labelOffset ls (now (t .entry)))) ⌝ }
 {
-    let m = index.len() / BUCKET_SHARE;
-    let n = labels.len();
     let h = hash_index::hash::bucket_of(t, m);
-    let mut k = hash_index::chain::index_at(index, h);
-    while k < n {
-        let i = n - 1 - k;
-        let own = label_text(text, labels, i);
+    let mut k = hash_index::backward::head_at(index, h);
+    while 0 < k {
+        let i = k - 1;
+        let word = index[m + i];
+        let l = label_at(text, labels, i, word, owned);
+        let start = l.start;
+        let size = l.size;
+        let own = slices::part::part_of(text, start, size);
         if slices::compare::same_bytes(own, t) {
-            let l = crate::label_entry::slot_at(labels, i);
-            return Found::At(l.offset as usize);
+            return Found::At(l.offset);
         }
-        k = hash_index::chain::index_at(index, m + k);
+        k = next_in(word);
     }
     Found::Missing
 }

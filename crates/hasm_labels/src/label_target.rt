@@ -1,6 +1,5 @@
 // The offset of a label that an operand names.
 ghost use mathlib.Core.Path.{_≡_};
-ghost use mathlib.Core.Bool.{true};
 ghost use mathlib.Core.List.{List};
 ghost use Prim.Native.Nat.{ℕ, _≤_};
 ghost use lib.ListN.{length};
@@ -11,18 +10,16 @@ ghost use Rattle.slices.specs.Answers.{foundOf};
 ghost use Rattle.sheet.specs.Keys.{NamesIndexed};
 ghost use Rattle.hasm_read.specs.Lines.{ShortLines};
 ghost use Rattle.spec_hasm.specs.Assemble.{Assembled, codesOf, unlessBadName, labelsFrom, labelOffset};
-ghost use Rattle.hasm_labels.specs.Slots.{labelsIn};
-ghost use Rattle.hasm_labels.specs.Keys.{LabelsIndexed};
 ghost use Rattle.hasm_labels.specs.Labelled.{Labelled};
 use crate::label_entry::Slot;
 use crate::names_pass::Names;
 use slices::search::Found;
 
-// What is known of a text's labels: whether the list holds all long ones; whether there is an index of them; whether there is a label
-// `L`, and the offset of the last one.
+// What is known of a text's labels: how many heads the index of all long ones has, 0 where there is none, and whether it holds them
+// itself; whether there is a label `L`, and the offset of the last one.
 pub struct Known {
-    pub listed: bool,
-    pub indexed: bool,
+    pub heads: usize,
+    pub owned: bool,
     pub has: bool,
     pub place: usize,
 }
@@ -35,17 +32,6 @@ fn bare_offset(known: Known) -> Found
         return Found::At(known.place);
     }
     Found::Missing
-}
-
-// The offset of a label of the list, by the index where there is one.
-fn listed_offset(text: &[u8], labels: &[Slot], index: &[u32], indexed: bool, t: &[u8]) -> Found
-    requires { ⌜ (indexed ≡ true → LabelsIndexed (now text) (now labels) (now index)) ⌝ }
-    ensures { λ r. ⌜ r ≡ foundOf (labelOffset (labelsIn (now (text .entry)) (now (labels .entry))) (now (t .entry))) ⌝ }
-{
-    if indexed {
-        return crate::label_index::find_indexed(text, labels, index, t);
-    }
-    crate::find_label::find_label(text, labels, t)
 }
 
 // All lines are read again.
@@ -63,7 +49,18 @@ fn read_again(
     ensures { λ r. ⌜ ((bytes ends : List ℕ) → r ≡ foundOf (labelOffset (labelsFrom (record { sheet = now (sheet .entry); types = now (types .entry); infos = now (ops .entry); bytes = bytes; ends = ends }) 0 (codesOf (record { sheet = now (sheet .entry); types = now (types .entry); infos = now (ops .entry); bytes = bytes; ends = ends }) (now (text .entry)))) (now (t .entry)))) ⌝ }
 {
     let mut none: [Slot; 0] = [];
-    let read = crate::names_pass::read_names(text, sheet, types, ops, names, &mut none, t);
+    let mut no_index: [u64; 0] = [];
+    let read = crate::names_pass::read_names(
+        text,
+        sheet,
+        types,
+        ops,
+        names,
+        &mut none,
+        t,
+        &mut no_index,
+        0,
+    );
     let Names::Good(taken) = read else {
         return Found::Missing;
     };
@@ -73,8 +70,8 @@ fn read_again(
     Found::Missing
 }
 
-// The last label `L` is known; a long one is searched in the list. Where the list is not whole, all lines are read again, and so they
-// are for a short text, which is no offset and no label's, so that the text is refused and no other is looked up.
+// The last label `L` is known; a long one is searched in the index. Where there is none, all lines are read again, and so they are
+// for a short text, which is no offset and no label's, so that the text is refused and no other is looked up.
 pub fn label_offset(
     text: &[u8],
     sheet: &[u8],
@@ -82,7 +79,7 @@ pub fn label_offset(
     ops: &[[usize; 4]; 256],
     names: &[u32],
     labels: &[Slot],
-    index: &[u32],
+    index: &[u64],
     known: Known,
     t: &[u8],
 ) -> Found
@@ -94,9 +91,10 @@ pub fn label_offset(
     if slices::compare::same_bytes(t, b"L") {
         return bare_offset(known);
     }
-    if known.listed {
+    let heads = known.heads;
+    if 0 < heads {
         if crate::hold_label::SHORT_LABEL < t.len() {
-            return listed_offset(text, labels, index, known.indexed, t);
+            return crate::label_index::find_indexed(text, labels, index, heads, known.owned, t);
         }
     }
     read_again(text, sheet, types, ops, names, t)

@@ -1,21 +1,23 @@
 // The pass over the names of a text's instructions, and its labels on the way.
 ghost use mathlib.Core.List.{List};
-ghost use Prim.Native.Nat.{ℕ, _≤_};
+ghost use Prim.Native.Nat.{ℕ, _≤_, _<_};
 ghost use lib.ListN.{length};
 ghost use Rattle.limits.specs.Limits.{textLimit};
 ghost use Rattle.sheet.specs.Keys.{NamesIndexed};
 ghost use Rattle.hasm_read.specs.Lines.{ShortLines};
+ghost use Rattle.hasm_labels.specs.Keys.{Buckets};
 ghost use Rattle.hasm_labels.specs.NamesRead.{NamesRead};
-use crate::hold_label::Progress;
 use crate::label_entry::Slot;
+use crate::own_labels::put_taken;
 use crate::take_line::Step;
 use answers::refusal::Refusal;
 
-// The labels that instructions take: how many, and how many of them are long; whether one has the text that was asked for, and the
-// offset of the last one that has.
+// The labels that instructions take: how many, and how many of them are long; whether the long ones are in the index; whether one has
+// the text that was asked for, and the offset of the last one that has.
 pub struct Taken {
     pub count: usize,
     pub kept: usize,
+    pub indexed: bool,
     pub has: bool,
     pub place: usize,
 }
@@ -26,7 +28,8 @@ pub enum Names {
     Refused(Refusal),
 }
 
-// Reads the names, stores the long labels that fit and looks for the label t. A refusal clears the labels.
+// Reads the names, stores the long labels that fit, puts them into an index of m heads, where there are any, and looks for the label t.
+// A refusal clears the labels.
 pub fn read_names(
     text: &[u8],
     sheet: &[u8],
@@ -35,21 +38,16 @@ pub fn read_names(
     names: &[u32],
     labels: &mut [Slot],
     t: &[u8],
+    index: &mut [u64],
+    m: usize,
 ) -> Names
     requires { ⌜ NamesIndexed (now sheet) (now ops) (now names) ⌝ }
     requires { ⌜ (length (now text) ≤ textLimit) × ShortLines (now text) ⌝ }
-    ensures { λ r. ⌜ ((bytes ends : List ℕ) → NamesRead (record { sheet = now (sheet .entry); types = now (types .entry); infos = now (ops .entry); bytes = bytes; ends = ends }) (now (text .entry)) (now (t .entry)) (now (labels .entry)) (now (labels .exit)) r) ⌝ }
+    requires { ⌜ (0 < m → Buckets m (now index)) ⌝ }
+    ensures { λ r. ⌜ ((bytes ends : List ℕ) → NamesRead (record { sheet = now (sheet .entry); types = now (types .entry); infos = now (ops .entry); bytes = bytes; ends = ends }) (now (text .entry)) (now (t .entry)) (now (labels .entry)) (now (labels .exit)) m (now (index .exit)) r) ⌝ }
 {
-    let mut p = Progress {
-        waits: false,
-        start: 0,
-        size: 0,
-        count: 0,
-        kept: 0,
-        offset: 0,
-        has: false,
-        place: 0,
-    };
+    let mut indexed = crate::own_labels::start_index(index, m);
+    let mut p = crate::hold_label::at_start();
     let mut at: usize = 0;
     let mut n: usize = 1;
     while at < text.len() {
@@ -69,6 +67,7 @@ pub fn read_names(
         );
         match step {
             Step::On(next) => {
+                indexed = put_taken(text, index, m, p, next.kept, indexed);
                 p = next;
             }
             Step::Refused(x) => {
@@ -82,6 +81,7 @@ pub fn read_names(
     Names::Good(Taken {
         count: p.count,
         kept: p.kept,
+        indexed,
         has: p.has,
         place: p.place,
     })

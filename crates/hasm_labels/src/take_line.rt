@@ -70,7 +70,7 @@ pub(crate) fn take_line(
 ) -> Step
     requires { ⌜ NamesIndexed (now sheet) (now ops) (now names) ⌝ }
     requires { ⌜ LineAt (now text) at end p ⌝ }
-    ensures { λ r. ⌜ ((bytes ends : List ℕ) (slots : List (List ℕ)) → Going (record { sheet = now (sheet .entry); types = now (types .entry); infos = now (ops .entry); bytes = bytes; ends = ends }) (now (text .entry)) (now (t .entry)) slots at n p (now (labels .entry)) → Turned (record { sheet = now (sheet .entry); types = now (types .entry); infos = now (ops .entry); bytes = bytes; ends = ends }) (now (text .entry)) (now (t .entry)) slots (end + 1) n r (now (labels .exit))) ⌝ }
+    ensures { λ r. ⌜ ((bytes ends : List ℕ) (slots : List (List ℕ)) (g : Going (record { sheet = now (sheet .entry); types = now (types .entry); infos = now (ops .entry); bytes = bytes; ends = ends }) (now (text .entry)) (now (t .entry)) slots at n p (now (labels .entry))) → Turned (record { sheet = now (sheet .entry); types = now (types .entry); infos = now (ops .entry); bytes = bytes; ends = ends }) (now (text .entry)) (now (t .entry)) slots p (g .taken) (end + 1) n r (now (labels .exit))) ⌝ }
 {
     let line = hasm_read::lines::line_of(text, at, end);
     let statement = hasm_read::statement::read_statement(line, sheet, ops, names);

@@ -1,4 +1,4 @@
-use Prim.Native.Nat.{_-_, _/_}
+use Prim.Native.Nat.{_-_}
 use mathlib.Core.Path.{refl}
 use mathlib.Core.Bool.{false}
 use native.Mathlib.Omega.{arith}
@@ -11,17 +11,14 @@ use Rattle.hasm_labels.proofs.label_index.has_room.Tie as tie
 returns : tie.Need-returns
 returns c = λ e. true-not-false false e refl
 
-returns-2 : tie.Need-returns-2
-returns-2 c = λ e. true-not-false false e refl
-
 sub-result : tie.Need-sub-result
 sub-result c = search needs
 
-returns-3 : tie.Need-returns-3
-returns-3 c = λ e.
-    let a = c .before .before .args in
-    let l = leb-true (a .n) (a .words - a .words / 8) e in
-    (omega (arith, c .if2 .left), omega (arith, l), omega (arith, l))
+returns-2 : tie.Need-returns-2
+returns-2 c = λ e.
+    let a = c .before .args in
+    let l = leb-true (a .n) (a .words - a .m) e in
+    (omega (arith, l), omega arith)
 
 pub has-room-spec : {M : Type 1} → statement M
-has-room-spec = tie.close (tie.spec returns returns-2 sub-result returns-3)
+has-room-spec = tie.close (tie.spec returns sub-result returns-2)

@@ -240,6 +240,9 @@ fn large_tables(m: &mut Meter) -> Table {
 /// How many labels are looked up. The last are as many as a body of 64 KiB takes.
 const LABELS: [usize; 3] = [100, 1000, 13_107];
 
+/// More labels than a body of 64 KiB takes (18).
+const MORE_LABELS: usize = 30_000;
+
 /// Labels whose digits are past u32, which are looked up, with all their entries lent and with none (19).
 fn looked_up(m: &mut Meter) -> Table {
     let sheet = Sheet::new(vec![Op { code: 0, name: "One".to_string(), jump: true, types: vec![9] }]);
@@ -249,6 +252,7 @@ fn looked_up(m: &mut Meter) -> Table {
             rows.push(labels(m, &sheet, count, all_lent, rows.last()));
         }
     }
+    rows.push(labels(m, &sheet, MORE_LABELS, false, rows.last()));
     Table { title: "Assembling with labels that are looked up".to_string(), sides: RUST, rows }
 }
 
@@ -263,7 +267,11 @@ fn labels(m: &mut Meter, sheet: &Sheet, count: usize, all_lent: bool, before: Op
     let lines = (0..count).map(|n| format!("L9999999{n:07}:\nOne L9999999{:07}\n", (n * 7919) % count));
     let text: String = lines.collect();
     let (mut out, mut labels) = (vec![0u8; 5 * count], vec![[0u32; 3]; if all_lent { count } else { 0 }]);
-    let expected = if all_lent { rust::success(5 * count) } else { rust::refusal(19, 0, 0) };
+    let expected = match (count, all_lent) {
+        (MORE_LABELS, _) => rust::refusal(18, 0, 0),
+        (_, true) => rust::success(5 * count),
+        (_, false) => rust::refusal(19, 0, 0),
+    };
     let figures = m.both(
         || assembled(&text, &sheet.format, &HashMap::new()),
         || {

@@ -20,7 +20,6 @@ use Rattle.hasm_read.specs.Statements.{StatementIn}
 use Rattle.hasm_read.proofs.PartLaws.{drop-take}
 use Rattle.hasm_labels.specs.Holding.{LongMore, Held}
 use Rattle.hasm_labels.specs.Holding.LongMore.{none, one}
-use Rattle.hasm_labels.specs.LongLabels.{longOf}
 use Rattle.hasm_labels.specs.NameReads.{codeOf, Sized}
 use Rattle.hasm_labels.specs.Going.{Passed, CodeTaken, Going, Behind, Turned}
 use Rattle.hasm_labels.specs.declared.take_line.Step.{Step}

@@ -1,15 +1,15 @@
 -- The long labels as keys of an index. Assumes nothing.
 use mathlib.Core.Path.{_≡_}
 use Prim.Native.Nat.{ℕ, _+_, _*_, _/_, _%_, _≤_, _<_}
-use mathlib.Core.Bool.{Bool, true, false, not}
-use mathlib.Core.List.{List, [], _∷_, _++_}
+use mathlib.Core.Bool.{Bool, false, not}
+use mathlib.Core.List.{List, []}
 use lib.Dec.{eqb}
 use lib.ListN.{length, take, drop, getD, set}
 use Rattle.lists.specs.Choice.{pick}
 use Rattle.lists.specs.Scan.{run, part}
 use Rattle.lists.specs.Found.{Found}
 use Rattle.hash_index.specs.Hash.{bucketOf}
-use Rattle.hash_index.specs.Backward.{nextUnit, keyLimit, ChainedBack}
+use Rattle.hash_index.specs.Backward.{nextUnit, ChainedBack}
 use Rattle.spec_hasm.specs.Assemble.{LabelAt, labelOffset}
 use Rattle.hasm_labels.specs.Slots.{labelIn}
 use Rattle.hasm_labels.specs.declared.own_label.LabelPlace.{LabelPlace}

@@ -1,5 +1,4 @@
-use mathlib.Core.Path.{ap, _∙_}
-use Rattle.spec_hasm.specs.Assemble.{LabelAt}
+use mathlib.Core.Path.{ap}
 use Rattle.lists.specs.Scan.{part}
 use Rattle.hasm_labels.specs.declared.label_entry.Entry.{Entry}
 use borrow.Author.Needs.{needs}

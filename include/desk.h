@@ -86,11 +86,11 @@
 /* The same, label entries: one for each instruction. */
 #define DESK_CARRY_LABELS(n) DESK_LEAST(n, DESK_MAX_BODY)
 
-/* Stack for a thread that calls any of the functions: the deepest call, desk_assemble, was measured at 879,215 bytes. */
+/* Stack for a thread that calls any of the functions: the deepest call, desk_assemble, was measured at 1,021,583 bytes. */
 #define DESK_STACK 1048576
 
-/* Stack for one that lists, where DESK_LIST_ENTRIES are lent or no label lies past the body: 84,015 bytes were measured. Where
-   fewer are lent and labels that are shown lie past the body it is too little: 355,167 were measured. */
+/* Stack for one that lists, where DESK_LIST_ENTRIES are lent or no label lies past the body: 83,999 bytes were measured. Where
+   fewer are lent and labels that are shown lie past the body it is too little: 355,151 were measured. */
 #define DESK_LIST_STACK 131072
 
 #ifdef __cplusplus
@@ -155,7 +155,7 @@ struct desk_answer desk_encode(const uint8_t *sheet, size_t sheet_len, const uin
 
 /* Lists a body, with offsets, labels and texts shown or not. length counts the bytes of the text. One label entry is
    needed for each different label offset, none where labels are not shown.
-   Stack 83 KiB, time 0.6 to 1.6 ms; up to 347 KiB and 0.2 s where labels that are shown lie past the body and fewer than
+   Stack 83 KiB, time 0.6 to 1.0 ms; up to 347 KiB and 0.2 s where labels that are shown lie past the body and fewer than
    DESK_LIST_ENTRIES are lent. */
 struct desk_answer desk_list(const uint8_t *sheet, size_t sheet_len, const uint8_t *bytes, size_t bytes_len,
                              const uint32_t *ends, size_t ends_len, const uint8_t *body, size_t body_len, bool offsets,
@@ -163,7 +163,7 @@ struct desk_answer desk_list(const uint8_t *sheet, size_t sheet_len, const uint8
                              size_t entries_len);
 
 /* The same for function number id of an area.
-   Stack 83 KiB, time 0.6 to 1.6 ms; up to 347 KiB and 0.2 s where labels that are shown lie past the body and fewer than
+   Stack 83 KiB, time 0.6 to 1.0 ms; up to 347 KiB and 0.2 s where labels that are shown lie past the body and fewer than
    DESK_LIST_ENTRIES are lent. */
 struct desk_answer desk_list_function(const uint8_t *sheet, size_t sheet_len, const uint8_t *bytes, size_t bytes_len,
                                       const uint32_t *ends, size_t ends_len, const uint32_t *functions,
@@ -183,7 +183,7 @@ struct desk_answer desk_list_module(const uint8_t *sheet, size_t sheet_len, cons
 
 /* Assembles a text into a body. length counts the bytes, and a refusal's place is the text's line. One label entry of
    three words is needed for each label line that an instruction takes.
-   Stack 1,002 KiB, time 4.5 to 7.7 ms. Where fewer entries are lent than a text has labels with a number past 32 bits, which no
+   Stack 998 KiB, time 3.5 to 5.8 ms. Where fewer entries are lent than a text has labels with a number past 32 bits, which no
    listing has, its names are read a second time to find them, so that it takes up to half as long again. */
 struct desk_answer desk_assemble(const uint8_t *sheet, size_t sheet_len, const uint8_t *bytes, size_t bytes_len,
                                  const uint32_t *ends, size_t ends_len, const uint8_t *text, size_t text_len,
@@ -192,7 +192,7 @@ struct desk_answer desk_assemble(const uint8_t *sheet, size_t sheet_len, const u
 /* Carries a body from the first sheet and string table to the second (sheet2, bytes2, ends2): each instruction gets the second
    sheet's opcode of its name, and keeps its meaning. length counts the bytes, and a refusal's place is the instruction's index,
    from 0; for 13 and 14 its byte offset. One label entry of three words is needed for each instruction.
-   Stack 607 KiB, time 0.7 to 2.7 ms. */
+   Stack 613 KiB, time 0.3 to 2.9 ms. */
 struct desk_answer desk_carry(const uint8_t *sheet, size_t sheet_len, const uint8_t *bytes, size_t bytes_len,
                               const uint32_t *ends, size_t ends_len, const uint8_t *sheet2, size_t sheet2_len,
                               const uint8_t *bytes2, size_t bytes2_len, const uint32_t *ends2, size_t ends2_len,

@@ -5,7 +5,7 @@ use Prim.Native.Nat.{ℕ, zero, suc, _+_, _-_, _*_, _/_, _≤_, _<_}
 use native.Mathlib.Numerals.{add-one}
 use native.Mathlib.Omega.{arith}
 use borrow.Author.Tests.{eq-eqb, ne-eqb}
-use lib.ListN.{length, drop, getD, set, replicate, length-set, length-drop, length-append, length-replicate, getD-replicate, List·getD-append}
+use lib.ListN.{length, drop, getD, set, replicate, length-set, length-append, length-replicate, getD-replicate, List·getD-append}
 use lib.Seq.{getD-set-same, getD-set-other}
 use Rattle.lists.proofs.Tests.{by-eqb}
 use Rattle.hash_index.specs.Backward.{nextUnit, lastBelow, ChainedBack, WalkBack}

@@ -240,8 +240,8 @@ fn large_tables(m: &mut Meter) -> Table {
 /// How many labels are looked up. The last are as many as a body of 64 KiB takes.
 const LABELS: [usize; 3] = [100, 1000, 13_107];
 
-/// More labels than a body of 64 KiB takes (18).
-const MORE_LABELS: usize = 30_000;
+/// More labels than a body of 64 KiB takes (18), in a text that is not too long.
+const MORE_LABELS: usize = 28_000;
 
 /// Labels whose digits are past u32, which are looked up, with all their entries lent and with none (19).
 fn looked_up(m: &mut Meter) -> Table {

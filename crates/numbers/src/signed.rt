@@ -2,10 +2,11 @@
 ghost use mathlib.Core.Path.{_≡_};
 ghost use Rattle.spec_numbers.specs.TwosComplement.{signed, unsigned, extend8, wrapSub, wrapAdd};
 
+// Straight arithmetic (document 02 (c)): the controller build wants no branch here.
 pub fn as_i8(b: u8) -> i8
     ensures { λ r. ⌜ r ≡ signed 8 b ⌝ }
 {
-    if b < 128 { b as i8 } else { !((!b) as i8) }
+    (((b as u16 + 128) % 256) as i16 - 128) as i8
 }
 
 pub fn bits_i8(x: i8) -> u8
@@ -30,15 +31,11 @@ pub fn bits_i32(x: i32) -> u32
     if 0 <= x { x as u32 } else { !((!x) as u32) }
 }
 
-// The 32 bits of a signed byte: `i8 as i32`.
+// The 32 bits of a signed byte: `i8 as i32`. Without a branch as well: 0xffff_ff80 is -128 in 32 bits.
 pub fn sign_extend8(b: u8) -> u32
     ensures { λ r. ⌜ r ≡ extend8 b ⌝ }
 {
-    if b < 128 {
-        b as u32
-    } else {
-        (b as u32) + 0xffff_ff00
-    }
+    (((b as u64 + 128) % 256 + 0xffff_ff80) % 0x1_0000_0000) as u32
 }
 
 // A jump's distance from its instruction to its target.

@@ -1,6 +1,6 @@
 -- An answer's numbers, field by field and case by case. Assumes nothing.
 use mathlib.Core.Path.{◌≡◌, refl, ap, sym, ◌∙◌}
-use Prim.Native.Nat.{ℕ, ◌<◌}
+use Prim.Native.Nat.{◌<◌}
 use native.Mathlib.Omega.{arith}
 use Rattle.answers.specs.Report.{Report}
 use Rattle.answers.specs.Refusals.{fault_number, refusal_report}

@@ -8,7 +8,7 @@ use crate::refusal::{OperandFault, Refusal};
 
 // Number, place and operand of a refusal, or three zeros and the length.
 #[repr(C)]
-#[derive(Drop)]
+#[derive(Clone, Copy)]
 pub struct Numbers {
     pub number: u64,
     pub place: u64,

@@ -6,7 +6,7 @@ use crate::refusal::Refusal;
 use crate::report::refusal_numbers;
 
 // How much a result needs: bytes of output, or records of 20 words, and label entries.
-#[derive(Drop)]
+#[derive(Clone, Copy)]
 pub struct Need {
     pub bytes: usize,
     pub records: usize,
@@ -14,7 +14,7 @@ pub struct Need {
 }
 
 // What an operation needs, or why it is refused whatever is lent.
-#[derive(Drop)]
+#[derive(Clone, Copy)]
 pub enum SpaceAnswer {
     Needs(Need),
     Refused(Refusal),
@@ -22,7 +22,7 @@ pub enum SpaceAnswer {
 
 // Number, place and operand of a refusal and no figures, or three zeros and the figures.
 #[repr(C)]
-#[derive(Drop)]
+#[derive(Clone, Copy)]
 pub struct SpaceNumbers {
     pub number: u64,
     pub place: u64,

@@ -14,7 +14,7 @@ use hasm_labels::label_entry::Slot;
 use hasm_labels::label_target::Known;
 
 // The length of the body, or the refusal of an operand, 6 to 12.
-#[derive(Drop)]
+#[derive(Clone, Copy)]
 pub enum Bytes {
     Written(usize),
     Refused(Refusal),

@@ -19,14 +19,14 @@ use slices::search::Found;
 use slices::write::put_byte;
 
 // The place behind an instruction or a line, or what is wrong with which operand.
-#[derive(Drop)]
+#[derive(Clone, Copy)]
 pub enum Step {
     On(Place),
     Refused(OperandFault, usize),
 }
 
 // A line by where it starts in the text, and where it ends.
-#[derive(Drop)]
+#[derive(Clone, Copy)]
 pub struct Span {
     pub at: usize,
     pub end: usize,

@@ -1,4 +1,6 @@
 // Assembling a text under a sheet and a string table: its instructions as bytes, then the operation.
+#![tactic(auto)]
+
 pub mod answer; // what assembling answers, and its numbers
 pub mod assemble; // the operation
 pub mod body; // all instructions of a text as bytes

@@ -15,14 +15,14 @@ use hasm_labels::label_target::Known;
 use hasm_tokens::number_token::Value;
 
 // The next place in the output, or what is wrong with an operand, and which one, counted from 1.
-#[derive(Drop)]
+#[derive(Clone, Copy)]
 pub enum Operands {
     Written(usize),
     Refused(OperandFault, usize),
 }
 
 // Where an instruction stands: its offset, and the place of its bytes in the output.
-#[derive(Drop)]
+#[derive(Clone, Copy)]
 pub struct Place {
     pub offset: usize,
     pub k: usize,

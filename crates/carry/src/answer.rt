@@ -9,7 +9,7 @@ use answers::report::{Numbers, done, refusal_numbers, short};
 use operation::ending::Measured;
 
 // The length of a body; why there is none; or that the lent space is too short for it.
-#[derive(Drop)]
+#[derive(Clone, Copy)]
 pub enum CarryAnswer {
     Done(usize),
     Refused(Refusal),

@@ -11,14 +11,14 @@ use sheet::opcode::Sheet;
 use slices::search::Found;
 
 // Whether the body and both string tables are good; or 18 or 17.
-#[derive(Drop)]
+#[derive(Clone, Copy)]
 pub enum Inputs {
     Good,
     Refused(Refusal),
 }
 
 // The largest opcode of the first sheet; or 1.
-#[derive(Drop)]
+#[derive(Clone, Copy)]
 pub enum Sheets {
     Ready(usize),
     Refused(Refusal),

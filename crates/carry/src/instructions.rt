@@ -22,14 +22,14 @@ use slices::write::put_bytes;
 
 // The next place in the block and the first operand that does not reach its target, counted from 1, or 0 where all do; or what
 // is wrong with which operand.
-#[derive(Drop)]
+#[derive(Clone, Copy)]
 pub enum Operands {
     Done(usize, usize),
     Refused(OperandFault, usize),
 }
 
 // How many bytes the result has, or the first refusal.
-#[derive(Drop)]
+#[derive(Clone, Copy)]
 pub enum Bytes {
     Written(usize),
     Refused(Refusal),
@@ -120,7 +120,7 @@ fn carry_instruction(
 }
 
 // The first 8 of a body: its instruction, counted from 0, and its operand, counted from 1; no operand where there is none.
-#[derive(Drop)]
+#[derive(Clone, Copy)]
 pub struct Far {
     pub instruction: usize,
     pub operand: usize,

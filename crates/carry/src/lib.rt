@@ -1,4 +1,6 @@
 // Carrying: a body into the opcodes, operand widths and string ids of another sheet and string table.
+#![tactic(auto)]
+
 pub mod answer; // what carrying answers, and its numbers
 pub mod carry; // the operation
 pub mod ids; // the second table's id of each text of the first

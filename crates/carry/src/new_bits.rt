@@ -13,7 +13,7 @@ use answers::refusal::OperandFault;
 use slices::widen::wide;
 
 // What is written of an operand; that an Addr8 does not reach its target, 8; or the first pass's refusal.
-#[derive(Drop)]
+#[derive(Clone, Copy)]
 pub enum NewBits {
     Bits(u64),
     Far,

@@ -16,7 +16,7 @@ use answers::refusal::OperandFault;
 
 // The next place in the block, and whether an Addr8 does not reach its target, 8, where nothing is written; or the first pass's
 // refusal.
-#[derive(Drop)]
+#[derive(Clone, Copy)]
 pub enum Carried {
     Done(usize, bool),
     Refused(OperandFault),

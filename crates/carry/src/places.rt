@@ -11,7 +11,7 @@ use crate::opcodes::{LENGTH, NEW_LENGTH};
 use answers::refusal::Refusal;
 
 // How many instructions a body has; or 13 or 14.
-#[derive(Drop)]
+#[derive(Clone, Copy)]
 pub enum Marked {
     Instructions(usize),
     Refused(Refusal),

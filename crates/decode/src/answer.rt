@@ -7,7 +7,7 @@ use answers::refusal::Refusal;
 use answers::report::{Numbers, done, refusal_numbers, short};
 
 // The records written, why there are none, or that the lent words are too few.
-#[derive(Drop)]
+#[derive(Clone, Copy)]
 pub enum DecodeAnswer {
     Done(usize),
     Refused(Refusal),

@@ -12,7 +12,7 @@ use answers::refusal::Refusal;
 use slices::widen::byte_index;
 
 // A body's records, counted, or 13 or 14 at an instruction.
-#[derive(Drop)]
+#[derive(Clone, Copy)]
 pub(crate) enum Body {
     Records(usize),
     Refused(Refusal),

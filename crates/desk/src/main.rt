@@ -1,4 +1,6 @@
 // The desk program: a job on standard input, what it prints on standard output.
+#![tactic(auto)]
+
 use job::run::RunAnswer;
 use libc::{STDIN_FILENO, STDOUT_FILENO};
 use slices::part::part_of;

@@ -1,5 +1,7 @@
 // The desk's functions for the host, called from C on numbers and slices: each is the proved operation with its answer as
 // four numbers.
+#![tactic(auto)]
+
 ghost use Rattle.std.specs.Prelude.{◌≡◌, [], ◌∷◌, length};
 ghost use Rattle.spec_body.specs.Operation as operation;
 ghost use Rattle.answers.specs.Numbers.{report_in};

@@ -1,6 +1,8 @@
 // The desk's leaves as C functions, for comparing each of them with the Rust that it was ported from. Those that print
 // keep to `Put` at position 0: they return the length of the whole text. Where `out` is longer, the bytes behind the text
 // stay as they were; where it is shorter, it holds as much of the text's front as it has room for.
+#![tactic(auto)]
+
 ghost use Rattle.std.specs.Prelude.{◌≡◌, false};
 ghost use Rattle.lists.specs.Write.{Put};
 ghost use Rattle.numbers.specs.Answers.{number_of};
@@ -19,7 +21,7 @@ use slices::search::Found;
 
 // 1 and a number, or two zeros where there is none.
 #[repr(C)]
-#[derive(Drop)]
+#[derive(Clone, Copy)]
 pub struct PartNumber {
     pub found: u64,
     pub value: u64,

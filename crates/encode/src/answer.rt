@@ -7,7 +7,7 @@ use answers::refusal::Refusal;
 use answers::report::{Numbers, done, refusal_numbers, short};
 
 // The bytes written, why there are none, or that the lent space is too short.
-#[derive(Drop)]
+#[derive(Clone, Copy)]
 pub enum EncodeAnswer {
     Done(usize),
     Refused(Refusal),

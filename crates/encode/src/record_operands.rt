@@ -8,7 +8,7 @@ use answers::refusal::{OperandFault, Refusal};
 use operand::write::Fitted;
 
 // Operands or records that were written: the next position; or the first refusal.
-#[derive(Drop)]
+#[derive(Clone, Copy)]
 pub(crate) enum Wrote {
     To(usize),
     Refused(Refusal),

@@ -12,7 +12,7 @@ pub(crate) const SHORT_LABEL: usize = 10;
 // How far the pass over a text's lines has come: the label that waits, by its start and size; how many labels were taken, and how
 // many of them are long; the offset of the next instruction; whether a taken label has the text that is asked for, and the offset
 // of the last one.
-#[derive(Drop)]
+#[derive(Clone, Copy)]
 pub struct Progress {
     pub waits: bool,
     pub start: usize,

@@ -8,7 +8,7 @@ use answers::refusal::Refusal;
 use slices::search::Found;
 
 // The instruction's length; or that the sheet has no such name (4), or gives it another number of operands (5).
-#[derive(Drop)]
+#[derive(Clone, Copy)]
 pub enum Named {
     Size(usize),
     Refused(Refusal),

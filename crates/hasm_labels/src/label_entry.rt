@@ -6,7 +6,7 @@ ghost use Rattle.hasm_labels.specs.Slots.{slot_at};
 pub type Slot = [u32; 3];
 
 // A label: where its text starts, how long it is, and its offset.
-#[derive(Drop)]
+#[derive(Clone, Copy)]
 pub struct Entry {
     pub start: u32,
     pub size: u32,

@@ -15,7 +15,7 @@ use slices::search::Found;
 
 // What is known of a text's labels: how many heads the index of all long ones has, 0 where there is none, and whether it holds them
 // itself; whether there is a label `L`, and the offset of the last one.
-#[derive(Drop)]
+#[derive(Clone, Copy)]
 pub struct Known {
     pub heads: usize,
     pub owned: bool,

@@ -1,4 +1,6 @@
 // The first pass over a text: names and operand counts, 4 and 5, and the label list.
+#![tactic(auto)]
+
 pub mod hold_label; // a label kept in the lent entries
 pub mod instruction_name; // an instruction's name and operand count
 pub mod label_entry; // one lent entry: start and length of the label's text, and its offset

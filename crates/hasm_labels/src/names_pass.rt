@@ -13,7 +13,7 @@ use answers::refusal::Refusal;
 
 // The labels that instructions take: how many, and how many of them are long; whether the long ones are in the index; whether one has
 // the text that was asked for, and the offset of the last one that has.
-#[derive(Drop)]
+#[derive(Clone, Copy)]
 pub struct Taken {
     pub count: usize,
     pub kept: usize,
@@ -23,7 +23,7 @@ pub struct Taken {
 }
 
 // The labels; or the first name that the sheet does not have (4) or that has too few or too many operands (5).
-#[derive(Drop)]
+#[derive(Clone, Copy)]
 pub enum Names {
     Good(Taken),
     Refused(Refusal),

@@ -13,7 +13,7 @@ pub(crate) const OFFSET_LIMIT: usize = 134_217_728;
 const COLON: u8 = 58;
 
 // A label: where its text starts, how long it is, and its offset.
-#[derive(Drop)]
+#[derive(Clone, Copy)]
 pub struct LabelPlace {
     pub start: usize,
     pub size: usize,

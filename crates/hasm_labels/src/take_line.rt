@@ -12,7 +12,7 @@ use answers::refusal::Refusal;
 use hasm_read::statement::Statement;
 
 // How far the pass has come behind a line, or the line's refusal, 4 or 5.
-#[derive(Drop)]
+#[derive(Clone, Copy)]
 pub enum Step {
     On(Progress),
     Refused(Refusal),

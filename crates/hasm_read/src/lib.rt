@@ -1,4 +1,6 @@
 // The lines of a text and what stands on each: comments, operands, offsets, labels (parse.rs).
+#![tactic(auto)]
+
 pub mod commas; // operands parted at commas outside of quotes
 pub mod comment; // where a line's comment starts
 pub mod hex_prefix; // the `0x` of a hex number

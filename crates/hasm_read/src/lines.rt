@@ -57,7 +57,7 @@ fn is_text(line: &[u8]) -> bool
 }
 
 // Whether all lines are good, or the refusal of the first that is too long (3) or no text (2).
-#[derive(Drop)]
+#[derive(Clone, Copy)]
 pub enum Checked {
     Good,
     Refused(Refusal),

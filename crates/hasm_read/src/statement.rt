@@ -7,7 +7,7 @@ ghost use Rattle.hasm_read.specs.Statements.{StatementIn};
 
 // A label by its start and its length without the colon; an instruction by where it starts, behind an offset, and where
 // it ends.
-#[derive(Drop)]
+#[derive(Clone, Copy)]
 pub enum Statement {
     Nothing,
     Label(usize, usize),

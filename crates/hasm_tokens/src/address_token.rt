@@ -12,7 +12,7 @@ use numbers::parse::{Number, parse_u32};
 use numbers::signed::wrapping_distance;
 
 // `L` and a u32; `L` and something else, for which the label table decides; or no `L`.
-#[derive(Drop)]
+#[derive(Clone, Copy)]
 pub enum Target {
     Offset(u64),
     Label,

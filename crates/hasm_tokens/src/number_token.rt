@@ -13,7 +13,7 @@ use numbers::parse::{Number, parse_hex, parse_i32, parse_u32};
 use numbers::read_double::read_double;
 
 // The bits of a token's value, or what is wrong with the token.
-#[derive(Drop)]
+#[derive(Clone, Copy)]
 pub enum Value {
     Bits(u64),
     Refused(OperandFault),

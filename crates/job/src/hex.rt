@@ -9,13 +9,13 @@ use numbers::parse::digit_value;
 use sheet::scan::Step;
 
 // A line that was read: the place behind it, and the next position of the lent bytes.
-#[derive(Drop)]
+#[derive(Clone, Copy)]
 pub(crate) struct HexRead {
     pub end: usize,
     pub next: usize,
 }
 
-#[derive(Drop)]
+#[derive(Clone, Copy)]
 pub(crate) enum HexLine {
     Read(HexRead),
     Malformed,

@@ -1,4 +1,6 @@
 // What the desk program prints for a job.
+#![tactic(auto)]
+
 pub(crate) mod assemble_job; // a job that assembles a text
 pub(crate) mod carry_job; // a job that carries a body
 pub(crate) mod hex; // bytes in hex, read

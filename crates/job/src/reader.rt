@@ -12,7 +12,7 @@ use sheet::opcode::Sheet;
 use sheet::scan::Step;
 
 // What a job asks for.
-#[derive(Drop)]
+#[derive(Clone, Copy)]
 pub(crate) enum Work {
     List,
     Assemble,
@@ -20,7 +20,7 @@ pub(crate) enum Work {
 }
 
 // What its first line says: what it asks for, and where the next line stands; or none of these.
-#[derive(Drop)]
+#[derive(Clone, Copy)]
 pub(crate) enum Asked {
     Job(Work, usize),
     Other,
@@ -59,7 +59,7 @@ pub(crate) fn end_space() -> [u32; limits::JOB_STRING_LIMIT] {
 
 // Inputs that were read: the place behind them and the number of the line there, the largest opcode, how many strings
 // there are and how many bytes these have.
-#[derive(Drop)]
+#[derive(Clone, Copy)]
 pub(crate) struct InputsRead {
     pub end: usize,
     pub line: usize,
@@ -69,7 +69,7 @@ pub(crate) struct InputsRead {
 }
 
 // What reading inputs answers: the inputs, or the malformed line, numbered in the job.
-#[derive(Drop)]
+#[derive(Clone, Copy)]
 pub(crate) enum InputsAnswer {
     Read(InputsRead),
     BadLine(usize),
@@ -109,7 +109,7 @@ pub(crate) fn inputs_at(
 }
 
 // How many bytes a body has; or the malformed line, numbered in the job.
-#[derive(Drop)]
+#[derive(Clone, Copy)]
 pub(crate) enum BodyAnswer {
     Read(usize),
     BadLine(usize),
@@ -131,7 +131,7 @@ pub(crate) fn body_at(s: &[u8], at: usize, line: usize, out: &mut [u8]) -> BodyA
 }
 
 // Where a text starts; or the malformed line, numbered in the job.
-#[derive(Drop)]
+#[derive(Clone, Copy)]
 pub(crate) enum TextAnswer {
     From(usize),
     BadLine(usize),

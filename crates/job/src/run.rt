@@ -62,7 +62,7 @@ fn print(job: &[u8], text: &mut [u8]) -> usize
 }
 
 // What the program's function answers. The definition run_report gives each case its number and length.
-#[derive(Drop)]
+#[derive(Clone, Copy)]
 pub enum RunAnswer {
     Done(usize),
     Short,

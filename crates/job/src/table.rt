@@ -10,7 +10,7 @@ use crate::hex::HexLine;
 use sheet::scan::Step;
 
 // A table that was read: the place behind it, how many strings it has and how many bytes.
-#[derive(Drop)]
+#[derive(Clone, Copy)]
 pub(crate) struct TableRead {
     pub end: usize,
     pub count: usize,
@@ -18,7 +18,7 @@ pub(crate) struct TableRead {
 }
 
 // What reading a table answers: the table, or how many of its lines were in order.
-#[derive(Drop)]
+#[derive(Clone, Copy)]
 pub(crate) enum TableAnswer {
     Read(TableRead),
     FaultAfter(usize),

@@ -1,4 +1,5 @@
 // Document 01's limits, as the code uses them; specs/Limits.antt has the same for the definitions.
+#![tactic(auto)]
 
 // 3: "line over 4,096 bytes, line end (LF or CR LF) not counted, read or to be listed".
 pub const LINE_LIMIT: usize = 4096;

@@ -12,7 +12,7 @@ use answers::refusal::Refusal;
 use slices::widen::byte_index;
 
 // How many near offsets a walk flagged and how many far ones it met; or 13 or 14 of decoding.
-#[derive(Drop)]
+#[derive(Clone, Copy)]
 enum Walked {
     Met(usize, usize),
     Refused(Refusal),
@@ -94,7 +94,7 @@ fn count_far(
 }
 
 // How many label entries a body needs; or 13 or 14 of decoding.
-#[derive(Drop)]
+#[derive(Clone, Copy)]
 pub enum Collected {
     Entries(usize),
     Refused(Refusal),

@@ -1,4 +1,6 @@
 // The label offsets of a body: collect_label_offsets of disasm.rs.
+#![tactic(auto)]
+
 pub mod collect; // one walk over a body
 pub mod distinct; // how many different numbers a slice has
 pub mod flow_end; // which instructions end the flow

@@ -5,7 +5,7 @@ ghost use Rattle.list_labels.specs.Notes.{notes_of};
 
 // How many near offsets are flagged, and how many far ones were met: those past the flags that are from `low` on and below
 // `high`.
-#[derive(Drop)]
+#[derive(Clone, Copy)]
 pub struct Counts {
     pub near: usize,
     pub far: usize,

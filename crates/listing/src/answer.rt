@@ -9,7 +9,7 @@ use answers::report::{Numbers, done, refusal_numbers, short};
 use operation::ending::Measured;
 
 // What listing answers. The definition list_report gives each case its number, place, operand and length.
-#[derive(Drop)]
+#[derive(Clone, Copy)]
 pub enum ListAnswer {
     Done(usize),
     Refused(Refusal),

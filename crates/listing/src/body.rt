@@ -19,7 +19,7 @@ use slices::write::clear;
 
 // A part of a listing: the next position and the label entries needed, exactly where they are more than are lent; or why it is
 // refused.
-#[derive(Drop)]
+#[derive(Clone, Copy)]
 pub enum Part {
     Listed(usize, usize),
     Refused(Refusal),
@@ -50,7 +50,7 @@ fn counted_lent(labels: bool, lent: usize) -> usize
 }
 
 // Where a part starts in the output, and how many label entries are lent.
-#[derive(Drop)]
+#[derive(Clone, Copy)]
 pub struct Room {
     pub from: usize,
     pub lent: usize,

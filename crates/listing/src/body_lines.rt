@@ -18,7 +18,7 @@ use slices::widen::byte_index;
 use slices::write::{put_byte, put_bytes};
 
 // The next position behind the lines, or the instruction whose line is too long.
-#[derive(Drop)]
+#[derive(Clone, Copy)]
 pub enum Lines {
     To(usize),
     Long(usize),

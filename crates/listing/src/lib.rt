@@ -1,4 +1,6 @@
 // Listing a body, or one function of an area: disassemble_function of disasm.rs.
+#![tactic(auto)]
+
 pub mod answer; // what listing answers, its numbers, and how a listing ends
 pub mod body; // a body's labels and lines
 pub mod body_lines; // the lines, with the labels known

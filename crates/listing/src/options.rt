@@ -1,5 +1,5 @@
 // What a listing shows: DisasmOptions of disasm.rs, without colour.
-#[derive(Drop)]
+#[derive(Clone, Copy)]
 pub struct Options {
     pub show_offsets: bool,
     pub show_labels: bool,

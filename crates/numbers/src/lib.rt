@@ -1,4 +1,6 @@
 // Numbers in bytes, read from text and printed, and doubles by their bits.
+#![tactic(auto)]
+
 pub mod little_endian; // little-endian numbers (io.rs)
 pub mod parse; // numbers read as Rust's u32, i32 and hex
 pub mod print_decimal; // numbers printed in decimal

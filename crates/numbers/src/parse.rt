@@ -9,7 +9,7 @@ ghost use Rattle.numbers.specs.Room.{has_room};
 use slices::compare::is_within;
 
 // A number that was read, or that the text is none.
-#[derive(Drop)]
+#[derive(Clone, Copy)]
 pub enum Number {
     Is(u64),
     Bad,

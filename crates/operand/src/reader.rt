@@ -11,35 +11,35 @@ pub struct ByteReader<'a> {
 }
 
 // What each read answers. Where the bytes end, `ok` is false, the value is 0 and the position stays.
-#[derive(Drop)]
+#[derive(Clone, Copy)]
 pub struct ReadU8 {
     pub ok: bool,
     pub value: u8,
     pub next: usize,
 }
 
-#[derive(Drop)]
+#[derive(Clone, Copy)]
 pub struct ReadU16 {
     pub ok: bool,
     pub value: u16,
     pub next: usize,
 }
 
-#[derive(Drop)]
+#[derive(Clone, Copy)]
 pub struct ReadU32 {
     pub ok: bool,
     pub value: u32,
     pub next: usize,
 }
 
-#[derive(Drop)]
+#[derive(Clone, Copy)]
 pub struct ReadI8 {
     pub ok: bool,
     pub value: i8,
     pub next: usize,
 }
 
-#[derive(Drop)]
+#[derive(Clone, Copy)]
 pub struct ReadI32 {
     pub ok: bool,
     pub value: i32,
@@ -47,7 +47,7 @@ pub struct ReadI32 {
 }
 
 // A double has its bits beside it, since an f64 keeps no NaN's payload.
-#[derive(Drop)]
+#[derive(Clone, Copy)]
 pub struct ReadF64 {
     pub ok: bool,
     pub value: f64,
@@ -56,7 +56,7 @@ pub struct ReadF64 {
 }
 
 // The number of n bytes, as what is read is made of it.
-#[derive(Drop)]
+#[derive(Clone, Copy)]
 struct Number {
     ok: bool,
     bits: u64,

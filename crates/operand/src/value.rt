@@ -3,7 +3,7 @@ ghost use Rattle.std.specs.Prelude.{◌≡◌};
 ghost use Rattle.operand.specs.Value.{value_of, kind_of_value, bits_of_value};
 
 // One of six kinds. A double's bits travel beside it, since an f64 keeps no NaN's payload.
-#[derive(Drop)]
+#[derive(Clone, Copy)]
 pub enum OperandValue {
     U8(u8),
     U16(u16),
@@ -14,7 +14,7 @@ pub enum OperandValue {
 }
 
 // An operand that was read: its value, a double's bits beside it and 0 beside any other, and the position behind its bytes.
-#[derive(Drop)]
+#[derive(Clone, Copy)]
 pub struct Operand {
     pub value: OperandValue,
     pub bits: u64,

@@ -10,7 +10,7 @@ ghost use Rattle.operand.specs.Write.{write_operand, fitted_of};
 use crate::value::{OperandValue, bits_of, kind_of, value_of};
 
 // The number of an operand, or that the value does not fit its type.
-#[derive(Drop)]
+#[derive(Clone, Copy)]
 pub enum Fitted {
     Bits(u64),
     NoFit,

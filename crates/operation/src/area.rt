@@ -6,7 +6,7 @@ use answers::refusal::Refusal;
 use slices::widen::wide;
 
 // A function's body in its area, and the id of its name.
-#[derive(Drop)]
+#[derive(Clone, Copy)]
 pub struct Function {
     pub start: usize,
     pub size: usize,
@@ -14,7 +14,7 @@ pub struct Function {
 }
 
 // A function inside of its area; or 20, or 18 of its body.
-#[derive(Drop)]
+#[derive(Clone, Copy)]
 pub enum Located {
     Inside(Function),
     Refused(Refusal),

@@ -5,7 +5,7 @@ ghost use Rattle.operation.specs.Ends.{measured_of, left_by};
 use slices::write::clear;
 
 // Whether a result is within its limit and the lent space.
-#[derive(Drop)]
+#[derive(Clone, Copy)]
 pub enum Measured {
     Fits,
     TooLarge,

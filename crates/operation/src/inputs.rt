@@ -9,7 +9,7 @@ use sheet::opcode::Sheet;
 use slices::search::Found;
 
 // The largest opcode of a sheet that was read; or 18, 17 or 1.
-#[derive(Drop)]
+#[derive(Clone, Copy)]
 pub enum Inputs {
     Ready(usize),
     Refused(Refusal),

@@ -6,7 +6,7 @@ use libc::STDIN_FILENO;
 use numbers::little_endian::read_le;
 
 // The numbers in front of a case.
-#[derive(Drop)]
+#[derive(Clone, Copy)]
 pub struct Head {
     pub operation: u64,
     pub sheet: usize,
@@ -19,7 +19,7 @@ pub struct Head {
     pub expected: usize,
 }
 
-#[derive(Drop)]
+#[derive(Clone, Copy)]
 pub enum HeadRead {
     Is(Head),
     End,

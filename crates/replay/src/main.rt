@@ -43,6 +43,8 @@
 // operation's form (words that are cut, a number that is not 8 bytes or, for 8, not below 2^32), or it is too large:
 // a sheet over 16,384 bytes, an input or expected output over 65,536 bytes, a room over 8,192 words or 65,536 bytes, more
 // than 64 strings or label entries, or a case behind the first 1,000,000.
+#![tactic(auto)]
+
 mod assembling;
 mod case;
 mod lent;
@@ -59,7 +61,7 @@ use libc::STDOUT_FILENO;
 use slices::part::part_of;
 
 // Why the replay stops at a case.
-#[derive(Drop)]
+#[derive(Clone, Copy)]
 enum Stop {
     Differs,
     Broken,
@@ -67,14 +69,14 @@ enum Stop {
 }
 
 // What comes of one case. Where it agrees, its sheet, which the next case may use, has this many bytes.
-#[derive(Drop)]
+#[derive(Clone, Copy)]
 enum Turn {
     Agrees(usize),
     Stops(Stop),
 }
 
 // What comes of all cases: the first `agreed` of them agree.
-#[derive(Drop)]
+#[derive(Clone, Copy)]
 struct Outcome {
     stop: Stop,
     agreed: u64,

@@ -12,7 +12,7 @@ use slices::write::clear;
 
 // The answer, or that label entries are not clear afterwards, or that there is no such operation or the input is not of its
 // form.
-#[derive(Drop)]
+#[derive(Clone, Copy)]
 pub enum Performed {
     Answered(Numbers),
     NotClear,

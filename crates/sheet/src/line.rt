@@ -11,7 +11,7 @@ ghost use Rattle.spec_sheet.specs.Line.LineRead.{no_line};
 use crate::scan::Step;
 
 // Operand types in a row of eight, how many there are, and the place behind them. Where `ok` is false all else is 0.
-#[derive(Drop)]
+#[derive(Clone, Copy)]
 pub struct Types {
     pub ok: bool,
     pub row: [u8; 8],
@@ -74,7 +74,7 @@ fn types_at(s: &[u8], at: usize) -> Types
 }
 
 // An opcode's number, where its name starts, how long it is, and the place behind it.
-#[derive(Drop)]
+#[derive(Clone, Copy)]
 pub enum Head {
     Is(u64, usize, usize, usize),
     Off,
@@ -117,7 +117,7 @@ fn head_at(s: &[u8], at: usize) -> Head
 
 // One opcode line: the opcode, its row of type codes, its operand count, jump mark and name, and the place behind it.
 // Where `ok` is false all else is 0.
-#[derive(Drop)]
+#[derive(Clone, Copy)]
 pub struct Line {
     pub ok: bool,
     pub code: usize,

@@ -11,7 +11,7 @@ use crate::rows::store_line;
 use crate::scan::Step;
 
 // The opcode lines: one more than the largest opcode and the place behind them, or how many were before a malformed one.
-#[derive(Drop)]
+#[derive(Clone, Copy)]
 pub enum Ops {
     All(usize, usize),
     FaultAfter(usize),
@@ -54,7 +54,7 @@ fn reset(types: &mut [[u8; 8]; 256], ops: &mut [[usize; 4]; 256])
 }
 
 // A sheet that was read: its version, how many opcode lines it has, its largest opcode, and the place behind it.
-#[derive(Drop)]
+#[derive(Clone, Copy)]
 pub struct SheetRead {
     pub version: u64,
     pub count: usize,
@@ -63,7 +63,7 @@ pub struct SheetRead {
 }
 
 // What reading a sheet answers: the sheet, or the malformed line, from 1.
-#[derive(Drop)]
+#[derive(Clone, Copy)]
 pub enum Sheet {
     Read(SheetRead),
     Malformed(usize),

@@ -9,7 +9,7 @@ ghost use Rattle.lists.specs.Choice.{both};
 use numbers::parse::Number;
 use slices::compare::is_within;
 
-#[derive(Drop)]
+#[derive(Clone, Copy)]
 pub enum Step {
     Next(u64, usize),
     Off,

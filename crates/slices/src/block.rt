@@ -6,7 +6,7 @@ ghost use Rattle.slices.specs.Block.{RoomMade};
 use crate::write::put_bytes;
 
 // The next position of the output, and how many bytes of the block are still to be written there.
-#[derive(Drop)]
+#[derive(Clone, Copy)]
 pub struct Gathered {
     pub next: usize,
     pub kept: usize,

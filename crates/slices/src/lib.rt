@@ -1,4 +1,6 @@
 // Writing, comparing, searching and clearing lent slices.
+#![tactic(auto)]
+
 pub mod block; // bytes gathered, and written a block at once
 pub mod class; // whether all bytes are in a class
 pub mod clearing; // lent words and label entries set to 0

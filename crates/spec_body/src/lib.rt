@@ -1,1 +1,2 @@
 // What decoding a body and encoding records mean. There is no code here: see specs/ and proofs/.
+#![tactic(auto)]

@@ -10,7 +10,7 @@ use slices::search::Found;
 use slices::widen::wide;
 
 // Where a text starts and ends, or that the id is not below the count.
-#[derive(Drop)]
+#[derive(Clone, Copy)]
 pub enum Entry {
     Text(usize, usize),
     Missing,

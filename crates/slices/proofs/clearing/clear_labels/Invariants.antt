@@ -1,0 +1,11 @@
+use mathlib.Core.List.{[], ◌∷◌}
+use Prim.Native.Nat.{◌-◌}
+use lib.ListN.{length}
+use Rattle.lists.proofs.Clears.{Cleared}
+use Rattle.slices.proofs.clearing.clear_labels.Given as goal
+
+abbrev pub invariant-loop-i : goal.invariant-loop-i
+invariant-loop-i l = Cleared (0 ∷ 0 ∷ 0 ∷ []) l.initial.labels l.labels l.i
+
+abbrev pub decreases-loop-i : goal.decreases-loop-i
+decreases-loop-i l = length l.initial.labels - l.i

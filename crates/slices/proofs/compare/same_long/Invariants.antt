@@ -1,0 +1,11 @@
+use mathlib.Core.Path.{◌≡◌}
+use Prim.Native.Nat.{◌-◌, ◌<◌}
+use lib.ListN.{length, drop}
+use Rattle.lists.specs.Scan.{same}
+use Rattle.slices.proofs.compare.same_long.Given as goal
+
+abbrev pub invariant-loop-i : goal.invariant-loop-i
+invariant-loop-i l = (l.i < length l.s) × (same l.s l.t ≡ same (drop l.i l.s) (drop l.i l.t))
+
+abbrev pub decreases-loop-i : goal.decreases-loop-i
+decreases-loop-i l = length l.s - l.i

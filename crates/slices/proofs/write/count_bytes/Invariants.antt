@@ -1,0 +1,10 @@
+use Rattle.lists.specs.Write.{Put}
+use lib.ListN.{length, take}
+use Prim.Native.Nat.{◌-◌, ◌≤◌}
+use Rattle.slices.proofs.write.count_bytes.Given as goal
+
+abbrev pub invariant-loop-i : goal.invariant-loop-i
+invariant-loop-i l = (l.i ≤ length l.s) × Put l.initial.out l.at (take l.i l.s) l.out l.k
+
+abbrev pub decreases-loop-i : goal.decreases-loop-i
+decreases-loop-i l = length l.s - l.i

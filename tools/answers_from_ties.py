@@ -17,8 +17,15 @@ GENERATED = re.compile(r'\.(Tie|Lts|Reads|Statement)(\.\{[^}]*\})?( as \S+)?$')
 TRIVIAL = {'search rules', 'search (rules)'}
 
 
+with open(os.path.join(ROOT, 'tools', 'snake-names.tsv'), encoding='utf-8') as _f:
+    WAS = {line.split('\t')[1].strip(): line.split('\t')[0] for line in _f}
+
+
 def same(a, b):
-    return a.replace('-', '_') == b.replace('-', '_')
+    """Whether two spellings are of one generated name: some were taken for a lemma's, and respelled."""
+    def spellings(x):
+        return {y.replace('-', '_').lower() for y in (x, WAS.get(x, x))}
+    return bool(spellings(a) & spellings(b))
 
 
 def clause_names(crate):
@@ -48,6 +55,13 @@ def clause_names(crate):
                 if m and current:
                     found[current][m[1]].append(m[2])
     return found
+
+
+def without_aliases(text, var):
+    """A name for an earlier step is that step: today every step is a field of one record."""
+    while m := re.search(rf'let ({WORD}) = ({re.escape(var)}(?:\.before)*) in\s*', text):
+        text = text[:m.start()] + re.sub(rf"(?<![^\s(){{}};,\[]){re.escape(m[1])}(?=[\s.();,]|$)", m[2], text[m.end():])
+    return text
 
 
 class Function:
@@ -105,9 +119,7 @@ class Function:
         return None
 
     def turn(self, text, place, var='c'):
-        # A name for an earlier step is that step: today every step is a field of one record.
-        while m := re.search(rf'let ({WORD}) = ({re.escape(var)}(?:\.before)+) in\s*', text):
-            text = text[:m.start()] + re.sub(rf"(?<![^\s(){{}};,\[]){re.escape(m[1])}(?=[\s.();,]|$)", m[2], text[m.end():])
+        text = without_aliases(text, var)
 
         def path(m):
             parts = m[0].split('.')[1:]
@@ -119,7 +131,45 @@ class Function:
                 return var
             new = self.step(place, back, parts)
             return '.'.join([var] + (new or parts))
-        return re.sub(rf"(?<![^\s(){{}};,\[]){re.escape(var)}(?:\.{WORD})+", path, text)
+        text = re.sub(rf"(?<![^\s(){{}};,\[]){re.escape(var)}(?:\.{WORD})+", path, text)
+        # What a call ensures, under a name of its own: its clauses have names too.
+        for m in list(re.finditer(rf'let ({WORD}) = {re.escape(var)}\.({WORD})\.ensures in', text)):
+            callee = next((p[3] for p in self.data['places'] if p[2][1] == m[2] and p[3]), None)
+            names = self.clauses.get(callee, {}).get('ensures', [])
+            if len(names) > 1:
+                for i, n in enumerate(names):
+                    text = re.sub(rf"(?<![^\s(){{}};,\[]){re.escape(m[1])}\.{i}(?![\w])", f'{m[1]}.{n}', text)
+        return text
+
+
+class Helper:
+    """A lemma at a step: NAME : tie.STEP → TYPE, or NAME : (c : tie.STEP) → TYPE, with one clause."""
+
+    def __init__(self, d):
+        rows = d.split('\n')
+        text = '\n'.join(r for r in rows if not r.startswith(('unfolding', '--')))
+        self.unfolding = [r for r in rows if r.startswith('unfolding')]
+        m = re.match(rf'(?P<pre>(?:abbrev |pub )*)(?P<name>{WORD}) : (?:\((?P<var>{WORD}) : tie\.(?P<place>{WORD})(?P<inv>(?: {WORD})*)\)|tie\.(?P<place2>{WORD})(?P<inv2>(?: {WORD})*))\s*→', text)
+        self.ok = bool(m)
+        if not m:
+            return
+        self.name = m['name']
+        self.place = m['place'] or m['place2']
+        rest = text[m.end():]
+        c = re.search(rf'^{re.escape(self.name)} ({WORD})((?: {WORD})*?) =', rest, re.M)
+        self.ok = bool(c)
+        if not c:
+            return
+        self.type = rest[:c.start()].strip()
+        self.var = m['var'] or c[1]
+        self.clause_var = c[1]
+        self.more = c[2].split()
+        self.body = rest[c.end():].strip()
+        self.data = m['pre'].startswith('abbrev')
+
+
+def one_line(text):
+    return re.sub(r'\s*\n\s*', ' ', text.strip())
 
 
 def blocks(text):
@@ -143,6 +193,58 @@ def substitute(body, names):
     return re.sub(r"(?<![^\s(){};,\[]|«)(?:«([^»]+)»|(" + WORD + r"))", lambda m: names.get(m[1] or m[2], m[0]), body)
 
 
+def top_commas(text):
+    """The parts of a text between its commas that stand in no bracket."""
+    parts, depth, last = [], 0, 0
+    for i, ch in enumerate(text):
+        if ch in '([{':
+            depth += 1
+        elif ch in ')]}':
+            depth -= 1
+        elif ch == ',' and depth == 0:
+            parts.append(text[last:i])
+            last = i + 1
+    return parts + [text[last:]]
+
+
+def as_record(text, goal, own, clauses, data, place, f):
+    """Where a contract has several named clauses, a tuple of proofs becomes a record by their names."""
+    names = None
+    if goal.startswith('returns'):
+        names = clauses.get(own, {}).get('ensures', [])
+    elif '-requires' in goal:
+        stem = goal.split('-requires')[0]
+        for p in data['places']:
+            if p[3] and (p[2][1] == stem or p[3].split('::')[-1] == stem.split('-')[0]):
+                names = clauses.get(p[3], {}).get('requires', [])
+                if p[2][1] == stem:
+                    break
+    if not names or len(names) < 2 or not all(names):
+        return text
+    body = text.rstrip()
+    if not body.endswith(')'):
+        return text
+    depth = 0
+    for i in range(len(body) - 1, -1, -1):
+        if body[i] == ')':
+            depth += 1
+        elif body[i] == '(':
+            depth -= 1
+            if depth == 0:
+                break
+    before = body[:i].rstrip()
+    if before and not re.search(r'( in|=|^)$', before):
+        return text
+    parts = top_commas(body[i + 1:-1])
+    if len(parts) < len(names):
+        return text
+    last = ','.join(parts[len(names) - 1:]).strip()
+    if len(parts) > len(names):
+        last = f'({last})'
+    values = [p.strip() for p in parts[:len(names) - 1]] + [last]
+    return body[:i] + 'record { ' + '; '.join(f'{n} = {v}' for n, v in zip(names, values)) + ' }'
+
+
 def convert(folder, key, data, clauses, own):
     path = os.path.join(folder, 'Proof.antt')
     with open(path, encoding='utf-8') as f:
@@ -160,7 +262,7 @@ def convert(folder, key, data, clauses, own):
             goals.append((name, re.search(r'tie\.Need-(\S+)', sig)[1].rstrip(')'), d))
         elif re.match(r'pub \S+[-_]spec :', d):
             order = d
-        elif head or d.startswith('--'):
+        elif head or d.startswith(('--', 'module ', ' ', 'infix')):
             others.append(d)
         else:
             return f'another shape: {d[:60]!r}'
@@ -169,6 +271,12 @@ def convert(folder, key, data, clauses, own):
     listed = order.split('tie.spec', 1)[1].replace(')', ' ').split()
     listed = [w for w in listed if w not in invariants]
     names = [g[0] for g in goals]
+    # A slice made of an array is a goal no more.
+    needs_of = {g[0]: g[1] for g in goals}
+    gone = [w for w in listed if needs_of.get(w, '').startswith('slice-aggregate')]
+    if len(listed) > len(data['needs']):
+        listed = [w for w in listed if w not in gone]
+        names = [n for n in names if n not in gone]
     if sorted(listed) != sorted(names):
         return f'goals {sorted(set(listed) ^ set(names))} are not as listed'
     needs = data['needs']
@@ -205,6 +313,38 @@ def convert(folder, key, data, clauses, own):
             text = substitute(body, table)
             inv_text.append('\n'.join([f'abbrev pub {kind}-{new} : goal.{kind}-{new}'] + unfolding + [f'{kind}-{new} l =' + text]))
     out = []
+    helpers = {}
+    for d in list(others):
+        if re.search(r'tie\.', d):
+            h = Helper(d)
+            if h.ok:
+                helpers[h.name] = h
+                others.remove(d)
+
+    def inline(text, var, depth=0):
+        """Puts in the place of each use of a helper its statement and its proof."""
+        if depth > 6:
+            return text
+        text = without_aliases(text, var)
+        for h in helpers.values():
+            pattern = re.compile(rf"(?<![^\s(){{}};,\[]){re.escape(h.name)} ({re.escape(var)}(?:\.before)*)(?![^\s(){{}};,\]])")
+            while m := pattern.search(text):
+                place = next((n for n in f.places if same(n, h.place) or same(n.replace('After-', ''), h.place.replace('After-', ''))), None)
+                if place is None:
+                    f.unknown.append(h.place)
+                    place = 'Start'
+                body = f.turn(inline(h.body, h.clause_var, depth + 1), place, h.clause_var)
+                kind = f.turn(inline(h.type, h.var, depth + 1), place, h.var)
+                if h.data:
+                    new = f'({one_line(body)})'
+                else:
+                    new = f'(let {h.name} : {one_line(kind)} = ' + (f'λ {" ".join(h.more)}. ' if h.more else '') + f'{one_line(body)} in {h.name})'
+                # what is turned already is kept from being turned again
+                new = re.sub(r"(?<![^\s(){};,\[])c\.", 'c!', new)
+                text = text[:m.start()] + new + text[m.end():]
+                h.used = True
+        return text
+
     by_name = {g[0]: g for g in goals}
     for at, listed_name in enumerate(listed):
         name, need, d = by_name[listed_name]
@@ -223,8 +363,16 @@ def convert(folder, key, data, clauses, own):
         var = words[0]
         if len(words) > 2 or var.startswith('('):
             return f'{name}: {left}'
-        text = f.turn(body, place, var)
+        text = f.turn(inline(body, var), place, var).replace('c!', 'c.')
+        opened = [w for u in unfolding for w in u.split()[1:]]
+        for h in helpers.values():
+            if h.unfolding and re.search(rf'(?<![\w-]){re.escape(h.name)} ', body + ' '.join(o.body for o in helpers.values() if o.name in body)):
+                opened += [w for u in h.unfolding for w in u.split()[1:] if w not in opened]
+        unfolding = ['unfolding ' + ' '.join(opened)] if opened else []
+        text = as_record(text, new, own, clauses, data, place, f)
         out.append('\n'.join([f'pub {new} : goal.{new}'] + unfolding + [f'{new} {var} =' + text]))
+    if any('tie.' in o for o in others):
+        return f'a helper over a step stays: {[o.split(" :")[0] for o in others if "tie." in o]}'
     kept = [u for u in uses if not GENERATED.search(u)]
     module = f'Rattle.{own.split("::")[0]}.proofs.' + '.'.join(own.split('::')[1:])
     if inv_text:

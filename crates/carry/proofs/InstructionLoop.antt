@@ -405,7 +405,7 @@ module _ (types types₂ rows : List (List ℕ)) (last : ℕ) (s map ids out₀ 
               let y : n' ≡ k' = cc z in
               let v : q ≡ 0 = cc z in
               let piece = get_or row 1 0 ∷ new_operands (carrying_in g) at new old row' (pairs_of record_here) in
-              let put : ByWords block n piece out' k' = byte and-words (rw y at w) in
+              let put : ByWords block n piece out' k' = byte and_words (rw y at w) in
               let fits : n + length piece ≤ length block = omega (arith, few, going.size, operands_length (carrying_in g) at new old row' (pairs_of record_here), new_size, here.most) in
               rw (keep_new far i q e')
               (wrote_all v

@@ -125,7 +125,7 @@ module _ {x : Carrying} {i at new : ℕ} {row row' s out₀ : List ℕ} {k : ℕ
         let y : k' ≡ n' = cc e in
         let v : b ≡ false = cc e in
         let bs = le_bytes (width_of d) (new_bits x at new c d bits) in
-        wrote_all (rw (z, v)) (seen ++ bs) (put and-words (rw y at w)) (bytes ∙ sym (append_assoc seen bs _)) (λ more rest. near more rest ∙ rw h)
+        wrote_all (rw (z, v)) (seen ++ bs) (put and_words (rw y at w)) (bytes ∙ sym (append_assoc seen bs _)) (λ more rest. near more rest ∙ rw h)
     written_more f u b out' n' (wrote_all z seen put bytes near) (is_far_lem e g h) =
         let v : b ≡ true = cc e in
         met_far f (rw (z, v) u) (λ more rest. near more rest ∙ (rw h (ap (λ (m : ℕ). refused_with (BadOperand Distance i m)) u)))

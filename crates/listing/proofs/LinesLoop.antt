@@ -152,7 +152,7 @@ unfolding long_line instruction_line
 line_long p r rest h = rw (lt-ltb 4096 (length (bare p r)) h)
 
 own_line : {p : Printing} {at n a c : ℕ} {block block' : List ℕ} (l : Line p at block n block' a c) → ByWords l.b₁ a (bare p (record_at p at)) block' c
-own_line l = as_words l.indent_put and-words l.text_put
+own_line l = as_words l.indent_put and_words l.text_put
 
 inside_next : (p : Printing) {at : ℕ} {rest : List (List ℕ)} → Next p.types p.last p.s at rest → at + size_at p at ≤ length p.s
 inside_next p (one rest' q y z d) = z
@@ -207,7 +207,7 @@ module _ {p : Printing} {rs : List (List ℕ)} {out₀ : List ℕ} {«from» : �
           let label = label_text p.o p.labels p.indent at in
           let e = marked_label p.o p.labels p.flags p.indent at m.marked (omega (arith, m.flags_room)) in
           let size = line_size a (length (bare p r)) c low_start.0 (own_line l).next q in
-          let whole = same_ahead e l.label_put and-words own_line l and-words as_words w in
+          let whole = same_ahead e l.label_put and_words own_line l and_words as_words w in
           let f : n + length (label ++ bare p r ++ (10 ∷ [])) ≤ length block = omega (arith, length-append (label ++ bare p r) (10 ∷ []), length-append label (bare p r), low_start, ap length e, size, g.size, few) in
           let t = ahead_front whole f in
           record {

@@ -63,7 +63,7 @@ module _ {texts : Bool} {bytes ends s row : List ℕ} {at : ℕ} {out₀ : List 
           room = operand_room w r u;
           left = left_ahead g.left
               (rw (x, q, u, c, add-one i, drop-cons row i 0 r) (first_operand texts bytes ends s at _ (get_or row i 0) (drop (suc i) row) p (λ y. z (c ∙ y))))
-              (a and-words b);
+              (a and_words b);
         }
 
     -- a code 0 ends the row

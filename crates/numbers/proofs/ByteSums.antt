@@ -1,5 +1,5 @@
 -- The number of some bytes by the numbers of those in front and of those behind, for any number of bytes. Assumes nothing.
-use Rattle.std.proofs.Common.{◌≡◌, ℕ, zero, suc, ◌+◌, ◌-◌, ◌*◌, ◌/◌, ◌^◌, ◌<◌, ◌≤◌, List, [], ◌∷◌, ◌++◌, length, get_or, drop, sym, refl, mul_assoc, zero-add, arith, drop-cons, pow-add, shr-shr}
+use Rattle.std.proofs.Common.{◌≡◌, ℕ, zero, suc, ◌+◌, ◌*◌, ◌/◌, ◌^◌, ◌<◌, ◌≤◌, List, [], ◌∷◌, ◌++◌, length, get_or, drop, sym, refl, mul_assoc, zero-add, arith, drop-cons, pow-add, shr-shr}
 use native.Mathlib.Nat.{pow-succ', one-le-pow, div-eq_of_lt, add-mul-div_left}
 use lib.Seq.{take-length}
 use Rattle.lists.specs.Scan.{Bytes, part}

@@ -65,7 +65,7 @@ put-instruction-requires : tie.Need-put-instruction-requires invariant-loop decr
 put-instruction-requires c κs = (inside c.before.before.before.before.before.before.before.before.before.before.before.before.before.before.before.before.loop.invariant c.before.before.before.before.before.before.before.before.before.before.before.before.before.before.before.loop-test.true, c.before.before.before.before.before.before.before.before.before.before.before.before.before.before.before.before.before.before.before.before.before.before.before.before.requires.1.1.1)
 
 sub-if1 : tie.Need-overflow-sub-if1 invariant-loop decreases-loop
-sub-if1 c = words_rise (as_words c.before.before.before.before.put-bytes.ensures and-words c.before.put-instruction.ensures) (omega arith)
+sub-if1 c = words_rise (as_words c.before.before.before.before.put-bytes.ensures and_words c.before.put-instruction.ensures) (omega arith)
 
 same_length : tie.Need-same-length invariant-loop decreases-loop
 same_length c = (roomy c.before.before.before.before.before.before.before.before.before.before.before.before.before.before.before.before.before.before.before.loop.invariant c.before.before.before.before.before.before.before.before.before.before.before.before.before.before.before.make-room.ensures).1.writing.same_size

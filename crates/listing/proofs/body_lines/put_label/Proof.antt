@@ -24,7 +24,7 @@ same_length c = search rules
 
 returns : tie.Need-returns
 unfolding label_line text le_bytes
-returns c = as_words c.before.before.before.before.before.before.before.before.before.before.before.before.before.before.put-bytes.ensures and-words c.before.before.before.before.before.before.before.before.before.before.put_word.ensures and-words c.before.before.before.before.before.before.put-decimal.ensures and-words c.before.before.put-word2.ensures
+returns c = as_words c.before.before.before.before.before.before.before.before.before.before.before.before.before.before.put-bytes.ensures and_words c.before.before.before.before.before.before.before.before.before.before.put_word.ensures and_words c.before.before.before.before.before.before.put-decimal.ensures and_words c.before.before.put-word2.ensures
 
 pub put-label-spec : {M : Type 1} → statement M
 put-label-spec =

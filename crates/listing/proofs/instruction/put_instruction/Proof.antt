@@ -44,7 +44,7 @@ same_length c = search rules
 
 returns : tie.Need-returns
 unfolding instruction_text name_of
-returns c = c.before.before.before.before.before.before.before.before.before.before.put-offset.ensures and-words c.before.before.before.before.before.before.put-name.ensures and-words c.before.before.put-operands.ensures
+returns c = c.before.before.before.before.before.before.before.before.before.before.put-offset.ensures and_words c.before.before.before.before.before.before.put-name.ensures and_words c.before.before.put-operands.ensures
 
 pub put-instruction-spec : {M : Type 1} → statement M
 put-instruction-spec =

@@ -26,7 +26,7 @@ returns c =
     let front = c.before.before.before.before.before.before in
     let family = c.before.before.before.before.before.before.before.before.before.before.before.args.family in
     let p = same_ahead {t = front_text family} (rw front.before.before.front-size.ensures.0 front.before.front-byte.ensures) front.put_word.ensures in
-    p and-words c.before.before.put-signed.ensures
+    p and_words c.before.before.put-signed.ensures
 
 pub put-number-spec : {M : Type 1} → statement M
 put-number-spec =

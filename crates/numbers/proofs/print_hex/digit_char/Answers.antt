@@ -1,0 +1,11 @@
+use Rattle.std.proofs.Common.{le-ltb, lt-ltb}
+use Rattle.spec_numbers.specs.Print.{digit}
+use Rattle.numbers.proofs.print_hex.digit_char.Goals as goal
+
+pub returns-then-d-lt10 : goal.returns-then-d-lt10
+unfolding digit
+returns-then-d-lt10 c = rw (lt-ltb _ _ c.if-d-lt10.true)
+
+pub returns-else-d-lt10 : goal.returns-else-d-lt10
+unfolding digit
+returns-else-d-lt10 c = rw (le-ltb _ _ c.if-d-lt10.false)

@@ -252,14 +252,25 @@ def convert(folder, key, data, clauses, own):
     f = Function(key, data, clauses, path)
     f.own = own
     goals, invariants, others, order = [], {}, [], None
+    remarks = {}
     for d in decls:
-        head = re.match(rf'(pub |abbrev )*({WORD}) :', d)
+        rows = d.split('\n')
+        while rows and rows[0].startswith('--'):
+            if not rows[0].startswith('-- src/'):
+                remarks.setdefault(len(goals), []).append(rows[0])
+            rows = rows[1:]
+        if not rows:
+            continue
+        head = re.match(rf'(pub |abbrev )*({WORD}) :', rows[0])
+        if not re.search(r'tie\.Need-|: tie\.(invariant|decreases)-', rows[0]):
+            rows = remarks.pop(len(goals), []) + rows
+        d = '\n'.join(rows)
         name = head[2] if head else None
         sig = d.split('\n')[0]
         if re.search(r': tie\.(invariant|decreases)-', sig):
             invariants[name] = d
         elif re.search(r'tie\.Need-', sig):
-            goals.append((name, re.search(r'tie\.Need-(\S+)', sig)[1].rstrip(')'), d))
+            goals.append((name, re.search(r'tie\.Need-(\S+)', sig)[1].rstrip(')'), d, remarks.get(len(goals), [])))
         elif re.match(r'pub \S+[-_]spec :', d):
             order = d
         elif head or d.startswith(('--', 'module ', ' ', 'infix')):
@@ -347,7 +358,7 @@ def convert(folder, key, data, clauses, own):
 
     by_name = {g[0]: g for g in goals}
     for at, listed_name in enumerate(listed):
-        name, need, d = by_name[listed_name]
+        name, need, d, remark = by_name[listed_name]
         rows = d.split('\n')
         first = next(i for i, r in enumerate(rows) if re.match(rf'{re.escape(name)}( |$)', r) and i > 0)
         unfolding = [r for r in rows[1:first] if r.startswith('unfolding')]
@@ -370,7 +381,7 @@ def convert(folder, key, data, clauses, own):
                 opened += [w for u in h.unfolding for w in u.split()[1:] if w not in opened]
         unfolding = ['unfolding ' + ' '.join(opened)] if opened else []
         text = as_record(text, new, own, clauses, data, place, f)
-        out.append('\n'.join([f'pub {new} : goal.{new}'] + unfolding + [f'{new} {var} =' + text]))
+        out.append('\n'.join(remark + [f'pub {new} : goal.{new}'] + unfolding + [f'{new} {var} =' + text]))
     if any('tie.' in o for o in others):
         return f'a helper over a step stays: {[o.split(" :")[0] for o in others if "tie." in o]}'
     kept = [u for u in uses if not GENERATED.search(u)]

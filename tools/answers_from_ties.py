@@ -24,7 +24,7 @@ with open(os.path.join(ROOT, 'tools', 'snake-names.tsv'), encoding='utf-8') as _
 def same(a, b):
     """Whether two spellings are of one generated name: some were taken for a lemma's, and respelled."""
     def spellings(x):
-        return {y.replace('-', '_').lower() for y in (x, WAS.get(x, x))}
+        return {re.sub('[-_]', '', re.sub('_lem$', '', y)).lower() for y in (x, WAS.get(x, x))}
     return bool(spellings(a) & spellings(b))
 
 
@@ -50,7 +50,9 @@ def clause_names(crate):
                 m = re.match(r'(\s*)(?:#\[[^\]]*\] )?(?:pub(?:\([^)]*\))? )?(?:unsafe )?(?:extern "C" )?fn (\w+)', line)
                 if m:
                     current = '::'.join(module + ([owner] if m[1] and owner else []) + [m[2]])
-                    found[current] = {'requires': [], 'ensures': []}
+                    found[current] = {'requires': [], 'ensures': [], 'slices': []}
+                    taken = text[text.index(line):].split(')', 1)[0]
+                    found[current]['slices'] = re.findall(r'(\w+): &mut \[', taken)
                 m = re.match(r'\s*(requires|ensures)\*? (?:(\w+) )?\{', line)
                 if m and current:
                     found[current][m[1]].append(m[2])
@@ -114,6 +116,9 @@ class Function:
                             break
                     if rest[0] in ('ensures', 'requires') and p[3]:
                         rest = [rest[0]] + self.numbered(p[3], rest[0], rest[1:])
+                    slices = self.clauses.get(p[3], {}).get('slices', [])
+                    if rest[0] == 'auto' and len(rest) > 1 and rest[1].isdigit() and int(rest[1]) < len(slices):
+                        rest = ['auto', slices[int(rest[1])]] + rest[2:]
                 return [p[2][1]] + rest
         self.unknown.append('.'.join(parts))
         return None
@@ -132,6 +137,15 @@ class Function:
             new = self.step(place, back, parts)
             return '.'.join([var] + (new or parts))
         text = re.sub(rf"(?<![^\s(){{}};,\[]){re.escape(var)}(?:\.{WORD})+", path, text)
+        for m in list(re.finditer(rf'let ({WORD}) = {re.escape(var)}\.({WORD}) in', text)):
+            callee = next((p[3] for p in self.data['places'] if p[2][1] == m[2] and p[3]), None)
+            names = self.clauses.get(callee, {}).get('ensures', [])
+            start = rf"(?<![^\s(){{}};,\[]){re.escape(m[1])}"
+            if len(names) > 1:
+                for i, n in enumerate(names):
+                    text = re.sub(rf'{start}\.ensures\.{i}(?![\w])', f'{m[1]}.ensures.{n}', text)
+            for i, n in enumerate(self.clauses.get(callee, {}).get('slices', [])):
+                text = re.sub(rf'{start}\.auto\.{i}(?![\w])', f'{m[1]}.auto.{n}', text)
         # What a call ensures, under a name of its own: its clauses have names too.
         for m in list(re.finditer(rf'let ({WORD}) = {re.escape(var)}\.({WORD})\.ensures in', text)):
             callee = next((p[3] for p in self.data['places'] if p[2][1] == m[2] and p[3]), None)
@@ -334,7 +348,7 @@ def convert(folder, key, data, clauses, own):
 
     def inline(text, var, depth=0):
         """Puts in the place of each use of a helper its statement and its proof."""
-        if depth > 6:
+        if depth > 20:
             return text
         text = without_aliases(text, var)
         for h in helpers.values():
@@ -372,8 +386,9 @@ def convert(folder, key, data, clauses, own):
         new = needs[at][1]
         place = data['asked_at'][at][0]
         var = words[0]
-        if len(words) > 2 or var.startswith('('):
+        if var.startswith('('):
             return f'{name}: {left}'
+        more = [w for w in words[1:] if w != 'κs']
         text = f.turn(inline(body, var), place, var).replace('c!', 'c.')
         opened = [w for u in unfolding for w in u.split()[1:]]
         for h in helpers.values():
@@ -381,7 +396,7 @@ def convert(folder, key, data, clauses, own):
                 opened += [w for u in h.unfolding for w in u.split()[1:] if w not in opened]
         unfolding = ['unfolding ' + ' '.join(opened)] if opened else []
         text = as_record(text, new, own, clauses, data, place, f)
-        out.append('\n'.join(remark + [f'pub {new} : goal.{new}'] + unfolding + [f'{new} {var} =' + text]))
+        out.append('\n'.join(remark + [f'pub {new} : goal.{new}'] + unfolding + [' '.join([new, var] + more) + ' =' + text]))
     if any('tie.' in o for o in others):
         return f'a helper over a step stays: {[o.split(" :")[0] for o in others if "tie." in o]}'
     kept = [u for u in uses if not GENERATED.search(u)]

@@ -3,7 +3,6 @@ use Rattle.std.specs.Prelude.{ℕ, List, ltb, length}
 use Rattle.lists.specs.Choice.{pick}
 use Rattle.spec_strings.specs.Table.{entry_start, entry_end}
 use Rattle.strings.specs.declared.table.Entry.{Entry}
-use Rattle.strings.specs.declared.table.Entry.TheVariants as Entry
 
 -- `string_at`: "the entry of that index, if below the count"
 unfoldable pub entry_of : List ℕ → ℕ → Entry

@@ -1,0 +1,15 @@
+use Rattle.sheet.proofs.NameWalk.{name_start, name_next, name_found, name_missing}
+use Rattle.hash_index.proofs.ChainLaws.{in_room, in_rises}
+use mathlib.Core.Path.{sym, ◌∙◌}
+use native.Mathlib.Omega.{arith}
+use Rattle.sheet.specs.Keys.{bucket_at, name_from}
+use Rattle.hash_index.specs.Chain.{Walk}
+use Prim.Native.Nat.{◌-◌}
+use borrow.Author.Rules.{rules}
+use Rattle.sheet.proofs.name_index.find_indexed.Given as goal
+
+abbrev pub invariant-loop-k : goal.invariant-loop-k
+invariant-loop-k l = Walk (bucket_at l.sheet l.ops) 256 l.h (name_from l.sheet l.name l.ops) l.k
+
+abbrev pub decreases-loop-k : goal.decreases-loop-k
+decreases-loop-k l = 256 - l.k

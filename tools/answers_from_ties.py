@@ -59,9 +59,23 @@ def clause_names(crate):
     return found
 
 
+def clause_path(names, rest):
+    """The clauses of a contract were a product, nested to the right; now each has its name."""
+    if len(names) < 2 or not all(names):
+        return rest
+    i = 0
+    while i < len(names) - 1 and i < len(rest) and rest[i] == '1':
+        i += 1
+    if i == len(names) - 1:
+        return [names[i]] + rest[i:]
+    if i < len(rest) and rest[i] == '0':
+        return [names[i]] + rest[i + 1:]
+    return rest
+
+
 def without_aliases(text, var):
     """A name for an earlier step is that step: today every step is a field of one record."""
-    while m := re.search(rf'let ({WORD}) = ({re.escape(var)}(?:\.before)*) in\s*', text):
+    while m := re.search(rf'let ({WORD}) = ({re.escape(var)}(?:\.before)*(?:\.{WORD}\.given(?:\.0)?)?) in\s*', text):
         text = text[:m.start()] + re.sub(rf"(?<![^\s(){{}};,\[]){re.escape(m[1])}(?=[\s.();,]|$)", m[2], text[m.end():])
     return text
 
@@ -88,10 +102,7 @@ class Function:
 
     def numbered(self, callee, kind, rest):
         """Numbers of clauses become their names."""
-        names = self.clauses.get(callee, {}).get(kind, [])
-        if len(names) > 1 and rest and rest[0].isdigit() and int(rest[0]) < len(names):
-            return [names[int(rest[0])] or rest[0]] + rest[1:]
-        return rest
+        return clause_path(self.clauses.get(callee, {}).get(kind, []), rest)
 
     def step(self, place, back, parts):
         """The new path of a step's field, as seen from a place; None where it is not known."""
@@ -142,8 +153,7 @@ class Function:
             names = self.clauses.get(callee, {}).get('ensures', [])
             start = rf"(?<![^\s(){{}};,\[]){re.escape(m[1])}"
             if len(names) > 1:
-                for i, n in enumerate(names):
-                    text = re.sub(rf'{start}\.ensures\.{i}(?![\w])', f'{m[1]}.ensures.{n}', text)
+                text = re.sub(rf'{start}\.ensures((?:\.[01])+)(?![\w])', lambda k: '.'.join([m[1], 'ensures'] + clause_path(names, k[1].split('.')[1:])), text)
             for i, n in enumerate(self.clauses.get(callee, {}).get('slices', [])):
                 text = re.sub(rf'{start}\.auto\.{i}(?![\w])', f'{m[1]}.auto.{n}', text)
         # What a call ensures, under a name of its own: its clauses have names too.
@@ -151,8 +161,14 @@ class Function:
             callee = next((p[3] for p in self.data['places'] if p[2][1] == m[2] and p[3]), None)
             names = self.clauses.get(callee, {}).get('ensures', [])
             if len(names) > 1:
-                for i, n in enumerate(names):
-                    text = re.sub(rf"(?<![^\s(){{}};,\[]){re.escape(m[1])}\.{i}(?![\w])", f'{m[1]}.{n}', text)
+                start = rf"(?<![^\s(){{}};,\[]){re.escape(m[1])}"
+                text = re.sub(rf'{start}((?:\.[01])+)(?![\w])', lambda k: '.'.join([m[1]] + clause_path(names, k[1].split('.')[1:])), text)
+        for m in list(re.finditer(rf'let ({WORD}) = {re.escape(var)}\.(args|requires) in', text)):
+            start = rf"(?<![^\s(){{}};,\[]){re.escape(m[1])}"
+            if m[2] == 'args':
+                text = re.sub(rf'{start}\.(t\d+)(?![\w])', lambda k: f'{m[1]}.{self.arg("args", k[1])}', text)
+            else:
+                text = re.sub(rf'{start}((?:\.[01])+)(?![\w])', lambda k: '.'.join([m[1]] + clause_path(self.clauses.get(self.own, {}).get('requires', []), k[1].split('.')[1:])), text)
         return text
 
 
@@ -250,6 +266,11 @@ def as_record(text, goal, own, clauses, data, place, f):
     if before and not re.search(r'( in|=|^)$', before):
         return text
     parts = top_commas(body[i + 1:-1])
+    while len(parts) < len(names) and parts[-1].strip().startswith('(') and parts[-1].strip().endswith(')'):
+        inner = top_commas(parts[-1].strip()[1:-1])
+        if len(inner) < 2:
+            break
+        parts = parts[:-1] + inner
     if len(parts) < len(names):
         return text
     last = ','.join(parts[len(names) - 1:]).strip()

@@ -3,7 +3,6 @@ use Rattle.spec_sheet.specs.Scan.{after}
 use Rattle.spec_sheet.specs.Line.{head_at}
 use Rattle.sheet.specs.Lines.{head_of}
 use Rattle.sheet.proofs.AnswerLaws.{was_next, was_off}
-use borrow.Author.Rules.{rules}
 use Rattle.sheet.proofs.line.head_at.Goals as goal
 
 pub returns-in_default : goal.returns-in_default

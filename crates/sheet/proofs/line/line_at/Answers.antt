@@ -3,7 +3,6 @@ use Rattle.spec_sheet.specs.Scan.{after}
 use Rattle.spec_sheet.specs.Line.{line_at, line_head}
 use Rattle.sheet.proofs.AnswerLaws.{was_next, was_off}
 use Rattle.sheet.proofs.LineLaws.{was_head, no_head_lem}
-use borrow.Author.Rules.{rules}
 use Rattle.sheet.proofs.line.line_at.Goals as goal
 
 pub returns-in_default : goal.returns-in_default

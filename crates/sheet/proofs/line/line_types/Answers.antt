@@ -2,7 +2,6 @@ use Rattle.sheet.proofs.LineLaws.{types_off, end_off, line_whole}
 use Rattle.sheet.proofs.AnswerLaws.{was_next, was_off}
 use Rattle.sheet.specs.Lines.{line_of}
 use mathlib.Core.Path.{sym, ◌∙◌, ap}
-use borrow.Author.Rules.{rules}
 use Rattle.sheet.proofs.line.line_types.Goals as goal
 
 pub returns-in_default : goal.returns-in_default

@@ -3,7 +3,6 @@ use borrow.Author.Tests.{leb-true}
 use lib.ListN.{length}
 use Prim.Native.Nat.{◌+◌}
 use mathlib.Core.Path.{sym, ◌∙◌, ap}
-use borrow.Author.Rules.{rules}
 use Rattle.sheet.proofs.line.op_at.Goals as goal
 
 pub quick_op-q-requires : goal.quick_op-q-requires

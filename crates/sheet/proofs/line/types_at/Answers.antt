@@ -5,7 +5,6 @@ use borrow.Author.Tests.{eqb-true}
 use lib.ListN.{get_or}
 use native.Mathlib.Omega.{arith}
 use mathlib.Core.Path.{sym, ◌∙◌}
-use borrow.Author.Rules.{rules}
 use Rattle.sheet.proofs.line.types_at.Goals as goal
 
 pub overflow_add-result : goal.overflow_add-result

@@ -1,14 +1,13 @@
 use lib.ListN.{get_or}
 use borrow.Author.Tests.{eqb-true}
-use Rattle.sheet.proofs.TypesLoop.{Going, start, ninth, failed, turn, done}
+use Rattle.sheet.proofs.TypesLoop.{start, ninth, failed, turn, done}
 use Rattle.sheet.proofs.AnswerLaws.{was_next, was_off}
 use Rattle.sheet.specs.Lines.{types_of}
 use Rattle.spec_sheet.proofs.ScanLaws.{type_bound}
 use Rattle.lists.proofs.Parts.{inside}
 use native.Mathlib.Omega.{arith}
-use Prim.Native.Nat.{◌-◌, ◌%◌}
+use Prim.Native.Nat.{◌%◌}
 use mathlib.Core.Path.{◌≡◌, sym, ◌∙◌, ap}
-use borrow.Author.Rules.{rules}
 use Rattle.sheet.proofs.line.types_from.Goals as goal
 
 pub loop-i-init : goal.loop-i-init

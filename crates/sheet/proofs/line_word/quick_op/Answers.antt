@@ -6,25 +6,23 @@ use Rattle.spec_numbers.specs.LittleEndian.{le_bytes}
 use Rattle.lists.specs.Text.{text}
 use native.Mathlib.Omega.{arith}
 use mathlib.Core.Path.{refl}
-use borrow.Author.Rules.{rules}
 use Rattle.sheet.proofs.line_word.quick_op.Goals as goal
 
 pub read_of_eight-requires-in-Next : goal.read_of_eight-requires-in-Next
-read_of_eight-requires-in-Next c = let n = c.n-1.given in omega (arith, c.requires, (c.short_number-n.ensures _ _ n.1).1)
+read_of_eight-requires-in-Next c = omega (arith, c.requires, (c.short_number-n.ensures _ _ c.in-Next.is).1)
 
 pub overflow_add-result : goal.overflow_add-result
-overflow_add-result c = let n = c.n-1.given in omega (arith, c.requires, (c.short_number-n.ensures _ _ n.1).1)
+overflow_add-result c = omega (arith, c.requires, (c.short_number-n.ensures _ _ c.in-Next.is).1)
 
 pub returns-then-read_of_eight-eq67505836092960 : goal.returns-then-read_of_eight-eq67505836092960
 unfolding text le_bytes
 returns-then-read_of_eight-eq67505836092960 c v b e =
     let s = c.args.s.now in
     let at = c.args.at in
-    let n = c.n-1.given in
     let bs : Bytes s = λ i. (c.shared_slice_known-1.given i).fits in
-    let m = c.short_number-n.ensures _ _ n.1 in
+    let m = c.short_number-n.ensures _ _ c.in-Next.is in
     let k = literal_there (text "op=") s at (word_opens s at 3 bs (omega (arith, c.requires)) (omega arith) (text "op=") c.read_of_eight.result 0x3d706f c.read_of_eight.ensures c.if-read_of_eight-eq4026479.true refl) in
-    let t = literal_there (text " name=") s n.0.1.0 (word_opens s n.0.1.0 6 bs (omega (arith, c.requires, m.1)) (omega arith) (text " name=") c.read_of_eight-in-Next.result 0x3d656d616e20 c.read_of_eight-in-Next.ensures c.if-read_of_eight-eq67505836092960.true refl) in
+    let t = literal_there (text " name=") s c.in-Next.b (word_opens s c.in-Next.b 6 bs (omega (arith, c.requires, m.1)) (omega arith) (text " name=") c.read_of_eight-in-Next.result 0x3d656d616e20 c.read_of_eight-in-Next.ensures c.if-read_of_eight-eq67505836092960.true refl) in
     as_told _ (keyed_read (text "op=") 255 (text " name=") s at k m.0 t) e
 
 pub returns-else-read_of_eight-eq67505836092960 : goal.returns-else-read_of_eight-eq67505836092960

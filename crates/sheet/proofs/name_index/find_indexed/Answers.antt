@@ -2,10 +2,7 @@ use Rattle.sheet.proofs.NameWalk.{name_start, name_next, name_found, name_missin
 use Rattle.hash_index.proofs.ChainLaws.{in_room, in_rises}
 use mathlib.Core.Path.{sym, ◌∙◌}
 use native.Mathlib.Omega.{arith}
-use Rattle.sheet.specs.Keys.{bucket_at, name_from}
-use Rattle.hash_index.specs.Chain.{Walk}
-use Prim.Native.Nat.{◌-◌}
-use borrow.Author.Rules.{rules}
+use Rattle.sheet.specs.Keys.{bucket_at}
 use Rattle.sheet.proofs.name_index.find_indexed.Goals as goal
 
 pub index_at-k-requires : goal.index_at-k-requires

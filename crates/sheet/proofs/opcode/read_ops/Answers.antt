@@ -1,14 +1,11 @@
 use mathlib.Core.Path.{refl}
 use mathlib.Core.Path.{sym, ◌∙◌, ap}
-use Prim.Native.Nat.{◌-◌}
 use native.Mathlib.Omega.{arith}
 use Rattle.sheet.specs.Sheets.{ops_of}
-use Rattle.sheet.specs.NameFilter.{Filtered}
 use Rattle.sheet.proofs.FilterLaws.{none_marked}
-use Rattle.sheet.proofs.OpsLoop.{Going, start, ended, stopped, small, turn, not_all, tables}
+use Rattle.sheet.proofs.OpsLoop.{start, ended, stopped, small, turn, not_all, tables}
 use Prim.Native.Nat.{ℕ}
 use Rattle.sheet.specs.declared.opcode.Ops.TheVariants.{All}
-use borrow.Author.Rules.{rules}
 use Rattle.sheet.proofs.opcode.read_ops.Goals as goal
 
 pub loop-i-init : goal.loop-i-init
@@ -35,7 +32,7 @@ pub loop-i-preserved : goal.loop-i-preserved
 loop-i-preserved c =
     let l = c.loop-i in
     let w = c.store_line-l.ensures in
-    (turn _ _ _ _ _ _ _ _ l.invariant.0 c.loop-i-test.true _ _ (sym w.value ∙ c.in-Next.is) _ _ w.types_after.0 w.types_after.1.0, w.types_after.1.1)
+    (turn _ _ _ _ _ _ _ _ l.invariant.0 c.loop-i-test.true _ _ (sym w.value ∙ c.in-Next.is) _ _ w.types_after w.ops_after, w.filtered)
 
 pub returns : goal.returns
 unfolding ops_of

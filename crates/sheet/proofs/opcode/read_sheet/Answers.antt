@@ -3,7 +3,6 @@ use Rattle.spec_sheet.specs.Sheet.{sheet_of}
 use lib.ListN.{length}
 use native.Mathlib.Omega.{arith}
 use mathlib.Core.Path.{sym, ◌∙◌}
-use borrow.Author.Rules.{rules}
 use Rattle.sheet.proofs.opcode.read_sheet.Goals as goal
 
 pub returns-then-sheet-s : goal.returns-then-sheet-s
@@ -11,7 +10,7 @@ unfolding sheet_of
 returns-then-sheet-s c =
     let w = c.sheet_into-r.ensures in
     let g = c.in-Read.is in
-    rw (ends_here (length c.args.s.now) _ (sym w.value ∙ g) c.if-sheet-s.true) (sym g ∙ w.value, w.types_after)
+    rw (ends_here (length c.args.s.now) _ (sym w.value ∙ g) c.if-sheet-s.true) (record { value = sym g ∙ w.value; types_after = w.types_after; ops_after = w.ops_after })
 
 pub overflow_add-result : goal.overflow_add-result
 overflow_add-result c =
@@ -25,7 +24,7 @@ returns-else-sheet-s c =
     let t = c.reset.ensures in
     let e = goes_on (length c.args.s.now) _ (sym w.value ∙ c.in-Read.is) c.if-sheet-s.false in
     let a = refused _ _ _ _ e t.types_after t.ops_after in
-    (a.answer, (a.type_rows_lem, a.info_rows_lem))
+    record { value = a.answer; types_after = a.type_rows_lem; ops_after = a.info_rows_lem }
 
 pub returns-in-Malformed : goal.returns-in-Malformed
 unfolding sheet_of

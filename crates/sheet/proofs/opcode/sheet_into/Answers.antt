@@ -1,29 +1,20 @@
-use Rattle.sheet.specs.Sheets.{sheet_answer, types_in, infos_in}
-use Rattle.sheet.specs.declared.opcode.Sheet.{Sheet}
-use Rattle.spec_sheet.specs.Sheet.{SheetRead}
-use Rattle.sheet.proofs.SheetAnswers.{Answers, refused, whole, some_opcode, fault_inside, fault_line}
+use Rattle.sheet.proofs.SheetAnswers.{refused, whole, some_opcode, fault_inside, fault_line}
 use Rattle.sheet.proofs.AnswerLaws.{was_next, was_off}
 use Rattle.spec_sheet.proofs.SheetLaws.{no_version, no_count, count_zero, with_ops}
 use Rattle.spec_sheet.proofs.ScanLaws.{keyed_bound}
 use Rattle.spec_sheet.specs.Scan.{line_end}
 use Rattle.lists.specs.Text.{text}
-use Prim.Native.Nat.{ℕ}
-use mathlib.Core.List.{List}
 use native.Mathlib.Omega.{arith}
-use mathlib.Core.Path.{◌≡◌, sym, ◌∙◌}
-use borrow.Author.Rules.{rules}
+use mathlib.Core.Path.{sym, ◌∙◌}
 use Rattle.sheet.proofs.opcode.sheet_into.Goals as goal
-
--- the three promises of an answer
-three : (x : SheetRead) (r : Sheet) (types infos : List (List ℕ)) → Answers x r types infos → (r ≡ sheet_answer x) × ((types ≡ types_in x) × (infos ≡ infos_in x))
-three x r types infos a = (a.answer, (a.type_rows_lem, a.info_rows_lem))
 
 pub returns-in_default : goal.returns-in_default
 unfolding text
 returns-in_default c =
     let a = c.args in
     let t = c.requires in
-    three _ _ _ _ (refused _ 1 _ _ (no_version a.s.now a.at (was_off _ (sym c.keyed_at-v.ensures ∙ c.in_default.is))) t.0 t.1)
+    let w = refused _ 1 _ _ (no_version a.s.now a.at (was_off _ (sym c.keyed_at-v.ensures ∙ c.in_default.is))) t.0 t.1 in
+    record { value = w.answer; types_after = w.type_rows_lem; ops_after = w.info_rows_lem }
 
 pub returns-in_default-n : goal.returns-in_default-n
 unfolding text
@@ -32,7 +23,8 @@ returns-in_default-n c =
     let t = c.requires in
     let v = was_next _ (sym c.keyed_at-v.ensures ∙ c.in-Next.is) in
     let n = was_off _ (sym c.keyed_at-n.ensures ∙ c.in_default-n.is) in
-    three _ _ _ _ (refused _ 2 _ _ (no_count a.s.now a.at _ _ v n) t.0 t.1)
+    let w = refused _ 2 _ _ (no_count a.s.now a.at _ _ v n) t.0 t.1 in
+    record { value = w.answer; types_after = w.type_rows_lem; ops_after = w.info_rows_lem }
 
 pub returns-then-count-eq0 : goal.returns-then-count-eq0
 unfolding text
@@ -41,7 +33,8 @@ returns-then-count-eq0 c =
     let t = c.requires in
     let v = was_next _ (sym c.keyed_at-v.ensures ∙ c.in-Next.is) in
     let n = was_next _ (sym c.keyed_at-n.ensures ∙ c.in-Next-n.is) in
-    three _ _ _ _ (refused _ 2 _ _ (count_zero a.s.now a.at _ _ _ _ v n c.if-count-eq0.true) t.0 t.1)
+    let w = refused _ 2 _ _ (count_zero a.s.now a.at _ _ _ _ v n c.if-count-eq0.true) t.0 t.1 in
+    record { value = w.answer; types_after = w.type_rows_lem; ops_after = w.info_rows_lem }
 
 pub read_ops-o-requires : goal.read_ops-o-requires
 read_ops-o-requires c = c.requires
@@ -71,7 +64,7 @@ returns-in-All c =
     let n = was_next _ (sym c.keyed_at-n.ensures ∙ c.in-Next-n.is) in
     let e = with_ops a.s.now a.at _ _ _ _ v n c.if-count-eq0.false in
     let o = c.read_ops-o.ensures in
-    three _ _ _ _ (rw e (whole _ _ a.s.now _ _ _ _ _ (sym o.value ∙ c.in-All.is) o.types_after))
+    rw e (let w = whole _ _ a.s.now _ _ _ _ _ (sym o.value ∙ c.in-All.is) o.types_after in record { value = w.answer; types_after = w.type_rows_lem; ops_after = w.info_rows_lem })
 
 pub returns-in-FaultAfter : goal.returns-in-FaultAfter
 unfolding text
@@ -81,4 +74,5 @@ returns-in-FaultAfter c =
     let v = was_next _ (sym c.keyed_at-v.ensures ∙ c.in-Next.is) in
     let n = was_next _ (sym c.keyed_at-n.ensures ∙ c.in-Next-n.is) in
     let e = with_ops a.s.now a.at _ _ _ _ v n c.if-count-eq0.false in
-    three _ _ _ _ (refused _ _ _ _ (e ∙ fault_line _ _ _ (sym c.read_ops-o.ensures.value ∙ c.in-FaultAfter.is)) t.types_after t.ops_after)
+    let w = refused _ _ _ _ (e ∙ fault_line _ _ _ (sym c.read_ops-o.ensures.value ∙ c.in-FaultAfter.is)) t.types_after t.ops_after in
+    record { value = w.answer; types_after = w.type_rows_lem; ops_after = w.info_rows_lem }

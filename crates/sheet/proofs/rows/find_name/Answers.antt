@@ -1,14 +1,11 @@
 use lib.ListN.{length-take}
 use Rattle.slices.specs.Answers.{found_of}
 use Rattle.spec_sheet.proofs.NameLaws.{find_end, find_here, find_next}
-use Rattle.spec_sheet.specs.Sheet.{find_name}
 use lib.Seq.{get_or-take}
-use lib.ListN.{take, drop, get_or}
+use lib.ListN.{take, get_or}
 use native.Mathlib.Omega.{arith}
-use Prim.Native.Nat.{◌-◌, ◌≤◌}
 use mathlib.Core.List.{[]}
 use mathlib.Core.Path.{◌≡◌, sym, ◌∙◌, ap}
-use borrow.Author.Rules.{rules}
 use Rattle.sheet.proofs.rows.find_name.Goals as goal
 
 pub returns-then-has_name : goal.returns-then-has_name

@@ -1,14 +1,7 @@
-use lib.ListN.{length-take}
-use Rattle.slices.specs.Answers.{found_of}
-use Rattle.spec_sheet.proofs.NameLaws.{find_end, find_here, find_next}
 use Rattle.spec_sheet.specs.Sheet.{find_name}
-use lib.Seq.{get_or-take}
-use lib.ListN.{take, drop, get_or}
-use native.Mathlib.Omega.{arith}
+use lib.ListN.{take, drop}
 use Prim.Native.Nat.{◌-◌, ◌≤◌}
-use mathlib.Core.List.{[]}
-use mathlib.Core.Path.{◌≡◌, sym, ◌∙◌, ap}
-use borrow.Author.Rules.{rules}
+use mathlib.Core.Path.{◌≡◌}
 use Rattle.sheet.proofs.rows.find_name.Given as goal
 
 abbrev pub invariant-loop-k : goal.invariant-loop-k

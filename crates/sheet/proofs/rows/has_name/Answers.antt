@@ -6,7 +6,6 @@ use native.Mathlib.Omega.{arith}
 use Prim.Native.Nat.{ℕ}
 use mathlib.Core.List.{List}
 use mathlib.Core.Path.{◌∙◌, ap}
-use borrow.Author.Rules.{rules}
 use Rattle.sheet.proofs.rows.has_name.Goals as goal
 
 pub returns-then-size-eq0 : goal.returns-then-size-eq0
@@ -17,5 +16,5 @@ pub returns : goal.returns
 unfolding has_name
 returns c =
     let a = c.args in
-    let h = lt-ltb 0 (get_or a.t3 3 0) (omega (arith, c.if-size-eq0.false)) in
+    let h = lt-ltb 0 (get_or a.row 3 0) (omega (arith, c.if-size-eq0.false)) in
     rw (h, has_name) (c.same_bytes.ensures ∙ ap (λ (l : List ℕ). same l a.name.now) c.part_of-own.ensures)

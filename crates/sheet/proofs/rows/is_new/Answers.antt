@@ -1,7 +1,6 @@
 use Rattle.sheet.proofs.AnswerLaws.{name_found, name_missing}
 use Rattle.slices.proofs.SearchLaws.{was_missing}
 use mathlib.Core.Path.{sym, ◌∙◌}
-use borrow.Author.Rules.{rules}
 use Rattle.sheet.proofs.rows.is_new.Goals as goal
 
 pub returns-in-At : goal.returns-in-At

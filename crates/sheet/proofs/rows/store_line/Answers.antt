@@ -1,5 +1,4 @@
 use Rattle.sheet.proofs.StoreLaws.{stored, refused, not_read, row_inside}
-use borrow.Author.Rules.{rules}
 use Rattle.sheet.proofs.rows.store_line.Goals as goal
 
 pub store_op-requires : goal.store_op-requires
@@ -13,20 +12,20 @@ returns-then-store_op c =
     let a = c.args in
     let l = c.line_at-l in
     let o = c.store_op in
-    let w = stored a.s.now a.least a.types.now a.ops.now l.result _ l.ensures c.if-l.true o.result o.ensures.value _ _ o.ensures.types_after.0 o.ensures.types_after.1.0 c.if-store_op.true in
-    (w.answer, (w.type_rows_lem, (w.info_rows_lem, o.ensures.types_after.1.1)))
+    let w = stored a.s.now a.least a.types.now a.ops.now l.result _ l.ensures c.if-l.true o.result o.ensures.value _ _ o.ensures.types_after o.ensures.ops_after c.if-store_op.true in
+    record { value = w.answer; types_after = w.type_rows_lem; ops_after = w.info_rows_lem; filtered = o.ensures.filtered }
 
 pub returns-then-l : goal.returns-then-l
 returns-then-l c =
     let a = c.args in
     let l = c.line_at-l in
     let o = c.store_op in
-    let w = refused a.s.now a.least a.types.now a.ops.now l.result _ l.ensures c.if-l.true o.result o.ensures.value _ _ o.ensures.types_after.0 o.ensures.types_after.1.0 c.if-store_op.false in
-    (w.answer, (w.type_rows_lem, (w.info_rows_lem, o.ensures.types_after.1.1)))
+    let w = refused a.s.now a.least a.types.now a.ops.now l.result _ l.ensures c.if-l.true o.result o.ensures.value _ _ o.ensures.types_after o.ensures.ops_after c.if-store_op.false in
+    record { value = w.answer; types_after = w.type_rows_lem; ops_after = w.info_rows_lem; filtered = o.ensures.filtered }
 
 pub returns : goal.returns
 returns c =
     let a = c.args in
     let l = c.line_at-l in
     let w = not_read a.s.now a.least a.types.now a.ops.now l.result _ l.ensures c.if-l.false in
-    (w.answer, (w.type_rows_lem, (w.info_rows_lem, c.requires.1)))
+    record { value = w.answer; types_after = w.type_rows_lem; ops_after = w.info_rows_lem; filtered = c.requires.1 }

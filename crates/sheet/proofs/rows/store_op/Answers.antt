@@ -3,13 +3,12 @@ use mathlib.Core.Path.{refl, sym, ◌∙◌}
 use Rattle.sheet.proofs.FilterLaws.{unmarked_new, marked_more}
 use Rattle.spec_sheet.specs.Line.{name_in}
 use Rattle.spec_sheet.proofs.NameLaws.{follow_low}
-use borrow.Author.Rules.{rules}
 use Rattle.sheet.proofs.rows.store_op.Goals as goal
 
 pub returns-then-code-least : goal.returns-then-code-least
 returns-then-code-least c =
     let a = c.args in
-    (sym (follow_low a.s.now a.least a.ops.now a.code (name_in a.s.now a.t5) c.if-code-least.true), (refl, (refl, c.requires.2)))
+    record { value = sym (follow_low a.s.now a.least a.ops.now a.code (name_in a.s.now a.info) c.if-code-least.true); types_after = refl; ops_after = refl; filtered = c.requires.2 }
 
 pub is_new-requires : goal.is_new-requires
 is_new-requires c =
@@ -22,10 +21,10 @@ returns-then-is_new c =
     let a = c.args in
     let n = c.part_of-name.ensures in
     let h = c.name_hash-h in
-    (follows a.s.now a.least a.ops.now a.code _ _ _ _ c.if-code-least.false n c.is_new.ensures c.if-is_new.true, (refl, (refl, marked_more a.s.now a.filter.now a.ops.now h.result h.ensures.1 c.requires.2 _ a.code a.t5 _ n h.ensures.0 c.add_hash.ensures)))
+    record { value = follows a.s.now a.least a.ops.now a.code _ _ _ _ c.if-code-least.false n c.is_new.ensures c.if-is_new.true; types_after = refl; ops_after = refl; filtered = marked_more a.s.now a.filter.now a.ops.now h.result h.ensures.1 c.requires.2 _ a.code a.info _ n h.ensures.0 c.add_hash.ensures }
 
 pub returns : goal.returns
 returns c =
     let a = c.args in
     let n = c.part_of-name.ensures in
-    (follows a.s.now a.least a.ops.now a.code _ _ _ _ c.if-code-least.false n c.is_new.ensures c.if-is_new.false, (refl, (refl, c.requires.2)))
+    record { value = follows a.s.now a.least a.ops.now a.code _ _ _ _ c.if-code-least.false n c.is_new.ensures c.if-is_new.false; types_after = refl; ops_after = refl; filtered = c.requires.2 }

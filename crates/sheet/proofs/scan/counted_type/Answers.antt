@@ -9,7 +9,6 @@ use native.Mathlib.Omega.{arith}
 use Rattle.sheet.specs.Answers.{step_of}
 use Rattle.spec_sheet.proofs.TypeWordLaws.{word_here, word_off, word_short}
 use borrow.Author.Tests.{leb-true, leb-false}
-use borrow.Author.Rules.{rules}
 use Rattle.sheet.proofs.scan.counted_type.Goals as goal
 
 pub overflow_add-at : goal.overflow_add-at

@@ -3,7 +3,6 @@ use Prim.Native.Nat.{◌+◌}
 use lib.ListN.{length}
 use borrow.Author.Tests.{leb-true}
 use Rattle.sheet.specs.Answers.{step_of}
-use borrow.Author.Rules.{rules}
 use Rattle.sheet.proofs.scan.type_at.Goals as goal
 
 pub quick_type-q-requires : goal.quick_type-q-requires

@@ -1,5 +1,3 @@
-pub mod ReaderRead
-pub mod ReaderAbove
 pub mod ReaderLaws
 pub mod ReaderTrials
 pub mod ReadLaws

@@ -9,7 +9,7 @@ use borrow.Author.Tests.{lt-ltb, le-ltb}
 use Rattle.lists.specs.Write.{Put}
 use Rattle.lists.proofs.Tests.{by_leb}
 use Rattle.lists.proofs.Writes.{put_fits, kept_length}
-use Rattle.answers.specs.Report.{success, zeros, written}
+use Rattle.answers.specs.Report.{zeros, written}
 use Rattle.answers.specs.Outcome.{measured, produced, Ended}
 use Rattle.answers.proofs.OutcomeLaws.{refused_end, small_end, few_end, result_end, enough, too_few}
 use Rattle.answers.specs.declared.refusal.Refusal.TheVariants as refusal

@@ -20,7 +20,6 @@ use Rattle.spec_inputs.specs.Context.{Context}
 use Rattle.spec_inputs.specs.Inputs.{under_table, under_inputs}
 use Rattle.operation.specs.Read.{Given}
 use Rattle.operation.specs.Read.Under.{ready, refused}
-use Rattle.operation.specs.declared.inputs.Inputs.{Inputs}
 use Rattle.operation.specs.declared.inputs.Inputs.TheVariants.{Ready, Refused}
 
 many : (text bytes ends : List ℕ) (b : Bool) → ltb 65536 (length ends) ≡ b → (then : Context → ℕ → Outcome) → (under_inputs text bytes ends then ≡ refused_with TooLarge → ⊥) → length ends ≤ 65536

@@ -4,7 +4,6 @@ use mathlib.Core.List.{List}
 use Prim.Native.Nat.{ℕ}
 use native.Mathlib.Omega.{arith}
 use Rattle.spec_sheet.specs.Sheet.{SheetRead, sheet_of}
-use Rattle.spec_sheet.specs.Sheet.SheetRead.{sheet, malformed}
 use Rattle.answers.specs.Refusals.{refusal_report}
 use Rattle.answers.specs.Outcome.{Outcome}
 use Rattle.spec_inputs.specs.Inputs.{under_table, under_sheet, under_context, under_inputs}

@@ -15,7 +15,7 @@ use Rattle.lists.proofs.Tests.{both_yes}
 use Rattle.answers.specs.declared.refusal.OperandFault.{OperandFault}
 use Rattle.answers.specs.declared.refusal.Refusal.{Refusal}
 use Rattle.answers.specs.declared.refusal.Refusal.TheVariants.{BadOperand}
-use Rattle.spec_numbers.specs.LittleEndian.{le, le_bytes}
+use Rattle.spec_numbers.specs.LittleEndian.{le_bytes}
 use Rattle.spec_numbers.proofs.ByteLaws.{le_bytes_le, length_le_bytes, le_bytes_bytes, le_bound}
 use Rattle.spec_sheet.specs.Types.{width_of, kind_of}
 use Rattle.spec_sheet.specs.Row.{length_of, count_of}

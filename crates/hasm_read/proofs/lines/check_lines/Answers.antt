@@ -1,0 +1,25 @@
+use borrow.Author.Tests.{not-true, not-false, ltb-true, ltb-false}
+use mathlib.Core.Path.{sym, ◌∙◌}
+use Rattle.hasm_read.proofs.CheckLaws.{going_start, going_end, going_long, going_bad, going_on}
+use Rattle.hasm_read.proofs.lines.check_lines.Goals as goal
+
+pub loop-at-init : goal.loop-at-init
+loop-at-init c = going_start c.args.text.now
+
+pub returns-then-long : goal.returns-then-long
+returns-then-long c =
+    let l = c.loop-at in
+    going_long c.args.text.now l.at l.n c.line_end-end.result _ l.invariant c.loop-at-test.true c.line_end-end.ensures.0 c.line_of-line.ensures (ltb-true _ _ c.if-long.true-raw)
+
+pub returns-then-not-good : goal.returns-then-not-good
+returns-then-not-good c =
+    let l = c.loop-at in
+    going_bad c.args.text.now l.at l.n c.line_end-end.result _ l.invariant c.loop-at-test.true c.line_end-end.ensures.0 c.line_of-line.ensures (ltb-false _ _ c.if-long.false-raw) (sym c.is_text-good.ensures ∙ not-true _ c.if-not-good.true-raw)
+
+pub loop-at-preserved : goal.loop-at-preserved
+loop-at-preserved c =
+    let l = c.loop-at in
+    going_on c.args.text.now l.at l.n c.line_end-end.result _ l.invariant c.loop-at-test.true c.line_end-end.ensures.0 c.line_of-line.ensures (ltb-false _ _ c.if-long.false-raw) c.line_end-end.ensures.1 (sym c.is_text-good.ensures ∙ not-false _ c.if-not-good.false-raw)
+
+pub returns : goal.returns
+returns c = going_end c.loop-at.invariant c.loop-at-test.false

@@ -356,6 +356,9 @@ def convert(folder, key, data, clauses, own):
             for b, v in zip(binders[len(variables):], moving):
                 table[b] = f'l.{v}'
             table.pop('_', None)
+            # A variable that the body binds itself is that one.
+            for bound in re.findall(rf'λ \(?({WORD}) *[:.]|\(({WORD}) : [^()]*\) →', body):
+                table.pop(bound[0] or bound[1], None)
             text = substitute(body, table)
             inv_text.append('\n'.join([f'abbrev pub {kind}-{new} : goal.{kind}-{new}'] + unfolding + [f'{kind}-{new} l =' + text]))
     out = []

@@ -1,10 +1,5 @@
-use mathlib.Core.Path.{◌≡◌}
 use native.Mathlib.Omega.{arith}
-use Prim.Native.Nat.{◌-◌, ◌+◌, ◌≤◌}
-use lib.ListN.{length, drop}
-use Rattle.spec_hasm.specs.Split.{split_outside, tokens}
 use Rattle.hasm_read.proofs.OperandLaws.{count_comma, count_blank, count_last}
-use borrow.Author.Rules.{rules}
 use Rattle.hasm_read.proofs.commas.count_operands.Goals as goal
 
 pub returns-then-last-eq0 : goal.returns-then-last-eq0

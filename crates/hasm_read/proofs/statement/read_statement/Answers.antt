@@ -4,7 +4,6 @@ use Rattle.lists.specs.Scan.{part}
 use Rattle.hasm_read.proofs.StatementLaws.{Cut, cut_at, cut_not_empty, no_statement, a_label, a_code, a_label_alone}
 use Rattle.hasm_read.proofs.LabelLaws.{label_room}
 use native.Mathlib.Omega.{arith}
-use borrow.Author.Rules.{rules}
 use Rattle.hasm_read.proofs.statement.read_statement.Goals as goal
 
 pub overflow_sub-size : goal.overflow_sub-size

@@ -1,0 +1,16 @@
+use mathlib.Core.Path.{◌≡◌, refl, sym, ◌∙◌}
+use lib.Seq.{length-take-le}
+use lib.ListN.{length, take, drop, drop_of_length-le}
+use Prim.Native.Nat.{◌-◌, ◌*◌, ◌≤◌}
+use native.Mathlib.Omega.{arith}
+use Rattle.encode.proofs.CanonicalLaws.{four_code, pair_canonical, pair_other}
+use Rattle.encode.specs.RecordPlaces.{pairs_at}
+use Rattle.encode.specs.Canonical.{canonical_pairs}
+use borrow.Author.Rules.{rules}
+use Rattle.encode.proofs.canonical.canonical_front.Given as goal
+
+abbrev pub invariant-loop-j : goal.invariant-loop-j
+invariant-loop-j l = (l.j ≤ 4) × (canonical_pairs (take 4 l.row) (pairs_at l.words l.at) ≡ canonical_pairs (drop l.j (take 4 l.row)) (drop (2 * l.j) (pairs_at l.words l.at)))
+
+abbrev pub decreases-loop-j : goal.decreases-loop-j
+decreases-loop-j l = 4 - l.j

@@ -1,0 +1,19 @@
+use mathlib.Core.Path.{sym}
+use Rattle.encode.proofs.CanonicalLaws.{no_type, other_kind, same_kind}
+use borrow.Author.Rules.{rules}
+use Rattle.encode.proofs.canonical.canonical_pair.Goals as goal
+
+pub returns-then-code-gt12 : goal.returns-then-code-gt12
+returns-then-code-gt12 c =
+    let a = c.args in
+    sym (no_type a.codes.now c.requires a.code a.kind a.bits c.if-code-gt12.true)
+
+pub returns-then-kind-codes : goal.returns-then-kind-codes
+returns-then-kind-codes c =
+    let a = c.args in
+    sym (other_kind a.codes.now c.requires a.code a.kind a.bits c.if-code-gt12.false c.if-kind-codes.true)
+
+pub returns : goal.returns
+returns c =
+    let a = c.args in
+    sym (same_kind a.codes.now c.requires a.code a.kind a.bits c.if-code-gt12.false c.if-kind-codes.false)

@@ -1,0 +1,15 @@
+use mathlib.Core.Path.{◌≡◌, sym, ◌∙◌}
+use lib.ListN.{length, drop, drop_of_length-le}
+use Prim.Native.Nat.{◌-◌, ◌≤◌}
+use native.Mathlib.Nat.{sub-zero}
+use native.Mathlib.Omega.{arith}
+use Rattle.encode.proofs.CanonicalLaws.{code_right, code_wrong}
+use Rattle.encode.specs.Canonical.{in_order}
+use borrow.Author.Rules.{rules}
+use Rattle.encode.proofs.canonical.in_order.Given as goal
+
+abbrev pub invariant-loop-j : goal.invariant-loop-j
+invariant-loop-j l = (l.j ≤ 8) × (in_order l.row l.count ≡ in_order (drop l.j l.row) (l.count - l.j))
+
+abbrev pub decreases-loop-j : goal.decreases-loop-j
+decreases-loop-j l = 8 - l.j

@@ -1,0 +1,31 @@
+use Rattle.encode.proofs.ShapeLaws.{pair_good, pair_bad}
+use Rattle.encode.specs.RecordPlaces.{pairs_at}
+use Rattle.spec_body.specs.Encode.{good_pairs}
+use lib.ListN.{drop}
+use Prim.Native.Nat.{◌-◌, ◌*◌, ◌≤◌}
+use native.Mathlib.Omega.{arith}
+use mathlib.Core.Path.{◌≡◌, refl, sym, ◌∙◌}
+use borrow.Author.Rules.{rules}
+use Rattle.encode.proofs.record_shape.good_pairs.Goals as goal
+
+pub loop-i-init : goal.loop-i-init
+loop-i-init c = (search rules, refl)
+
+pub loop-i-preserved : goal.loop-i-preserved
+loop-i-preserved c =
+    let l = c.loop-i in
+    let a = c.args in
+    (omega arith, l.invariant.1 ∙ rw c.one_less-left.ensures (pair_good a.words.now a.at l.i _ l.left refl c.loop-i-test.true (sym c.good_slot.ensures ∙ c.if-good_slot.true)))
+
+pub returns-else-good_slot : goal.returns-else-good_slot
+returns-else-good_slot c =
+    let l = c.loop-i in
+    let a = c.args in
+    sym (l.invariant.1 ∙ pair_bad a.words.now a.at l.i _ l.left refl c.loop-i-test.true (sym c.good_slot.ensures ∙ c.if-good_slot.false))
+
+pub returns : goal.returns
+unfolding good_pairs
+returns c =
+    let l = c.loop-i in
+    let e : 8 - l.i ≡ 0 = omega arith in
+    sym (l.invariant.1 ∙ rw e)

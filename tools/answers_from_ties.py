@@ -50,9 +50,7 @@ def clause_names(crate):
                 m = re.match(r'(\s*)(?:#\[[^\]]*\] )?(?:pub(?:\([^)]*\))? )?(?:unsafe )?(?:extern "C" )?fn (\w+)', line)
                 if m:
                     current = '::'.join(module + ([owner] if m[1] and owner else []) + [m[2]])
-                    found[current] = {'requires': [], 'ensures': [], 'slices': []}
-                    taken = text[text.index(line):].split(')', 1)[0]
-                    found[current]['slices'] = re.findall(r'(\w+): &mut \[', taken)
+                    found[current] = {'requires': [], 'ensures': []}
                 m = re.match(r'\s*(requires|ensures)\*? (?:(\w+) )?\{', line)
                 if m and current:
                     found[current][m[1]].append(m[2])
@@ -69,6 +67,16 @@ def clause_path(names, rest):
     if i == len(names) - 1:
         return [names[i]] + rest[i:]
     if i < len(rest) and rest[i] == '0':
+        return [names[i]] + rest[i + 1:]
+    return rest
+
+
+def parameter_path(names, rest):
+    """What is known of each parameter after a call, of old by its number, nested to the right."""
+    i = 0
+    while i < len(rest) and rest[i] == '1':
+        i += 1
+    if i < len(rest) and rest[i] == '0' and i < len(names):
         return [names[i]] + rest[i + 1:]
     return rest
 
@@ -127,9 +135,8 @@ class Function:
                             break
                     if rest[0] in ('ensures', 'requires') and p[3]:
                         rest = [rest[0]] + self.numbered(p[3], rest[0], rest[1:])
-                    slices = self.clauses.get(p[3], {}).get('slices', [])
-                    if rest[0] == 'auto' and len(rest) > 1 and rest[1].isdigit() and int(rest[1]) < len(slices):
-                        rest = ['auto', slices[int(rest[1])]] + rest[2:]
+                    if rest[0] == 'auto' and len(rest) > 1:
+                        rest = ['auto'] + parameter_path(self.data['params'].get(p[3], []), rest[1:])
                 return [p[2][1]] + rest
         self.unknown.append('.'.join(parts))
         return None
@@ -154,8 +161,8 @@ class Function:
             start = rf"(?<![^\s(){{}};,\[]){re.escape(m[1])}"
             if len(names) > 1:
                 text = re.sub(rf'{start}\.ensures((?:\.[01])+)(?![\w])', lambda k: '.'.join([m[1], 'ensures'] + clause_path(names, k[1].split('.')[1:])), text)
-            for i, n in enumerate(self.clauses.get(callee, {}).get('slices', [])):
-                text = re.sub(rf'{start}\.auto\.{i}(?![\w])', f'{m[1]}.auto.{n}', text)
+            given = self.data['params'].get(callee, [])
+            text = re.sub(rf'{start}\.auto((?:\.[01])+)(?![\w])', lambda k: '.'.join([m[1], 'auto'] + parameter_path(given, k[1].split('.')[1:])), text)
         # What a call ensures, under a name of its own: its clauses have names too.
         for m in list(re.finditer(rf'let ({WORD}) = {re.escape(var)}\.({WORD})\.ensures in', text)):
             callee = next((p[3] for p in self.data['places'] if p[2][1] == m[2] and p[3]), None)

@@ -2,7 +2,6 @@ use Rattle.decode.proofs.DecodeCases.{decode_large, decode_small}
 use Rattle.decode.proofs.BodyAnswers.{refused}
 use Rattle.operation.proofs.UnderLaws.{under_read, under_none}
 use mathlib.Core.Path.{sym, ◌∙◌}
-use borrow.Author.Rules.{rules}
 use Rattle.decode.proofs.instructions.decode.Goals as goal
 
 pub returns-then-body-gt-BODY_LIMIT : goal.returns-then-body-gt-BODY_LIMIT

@@ -2,7 +2,6 @@ use Rattle.decode.proofs.BodyAnswers.{refused}
 use Rattle.operation.proofs.UnderLaws.{under_read, under_none}
 use Rattle.spec_body.specs.Operation.{decode_function}
 use mathlib.Core.Path.{sym, ◌∙◌}
-use borrow.Author.Rules.{rules}
 use Rattle.decode.proofs.instructions.decode_function.Goals as goal
 
 pub returns-in-Read : goal.returns-in-Read

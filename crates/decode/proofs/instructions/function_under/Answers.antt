@@ -1,7 +1,6 @@
 use mathlib.Core.Path.{sym}
 use Rattle.decode.proofs.DecodeCases.{outcome_at, function_as}
 use Rattle.decode.proofs.BodyAnswers.{refused}
-use borrow.Author.Rules.{rules}
 use Rattle.decode.proofs.instructions.function_under.Goals as goal
 
 pub returns-in-Inside : goal.returns-in-Inside

@@ -1,7 +1,4 @@
-use Prim.Native.Nat.{◌-◌, ◌≤◌}
-use mathlib.Core.Path.{◌≡◌}
-use Rattle.decode.specs.Tables.{code_row}
-use Rattle.sheet.proofs.Filled.{Filled, none_made, one_more}
+use Rattle.sheet.proofs.Filled.{none_made, one_more}
 use Rattle.decode.proofs.TableLaws.{codes_made}
 use borrow.Author.Rules.{rules}
 use Rattle.decode.proofs.tables.code_rows.Goals as goal

@@ -1,9 +1,5 @@
-use mathlib.Core.List.{[]}
-use lib.ListN.{get_or}
-use Prim.Native.Nat.{◌-◌, ◌≤◌}
 use native.Mathlib.Omega.{arith}
-use Rattle.decode.specs.Tables.{PlanOf}
-use Rattle.sheet.proofs.Filled.{Filled, none_made, one_more}
+use Rattle.sheet.proofs.Filled.{none_made, one_more}
 use Rattle.decode.proofs.TableLaws.{plans_made}
 use borrow.Author.Rules.{rules}
 use Rattle.decode.proofs.tables.plan_rows.Goals as goal

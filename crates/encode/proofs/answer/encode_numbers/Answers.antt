@@ -2,7 +2,6 @@ use mathlib.Core.Path.{ap, sym, ◌∙◌}
 use Rattle.answers.specs.Numbers.{numbers_of}
 use Rattle.encode.specs.Answers.{encode_report}
 use Rattle.encode.specs.declared.answer.EncodeAnswer.{EncodeAnswer}
-use borrow.Author.Rules.{rules}
 use Rattle.encode.proofs.answer.encode_numbers.Goals as goal
 
 pub returns-in-Done : goal.returns-in-Done

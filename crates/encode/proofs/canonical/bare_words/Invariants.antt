@@ -1,14 +1,10 @@
-use mathlib.Core.Path.{◌≡◌, refl, sym, ◌∙◌}
-use lib.ListN.{length, drop}
+use mathlib.Core.Path.{◌≡◌}
+use lib.ListN.{drop}
 use lib.Dec.{eqb}
 use Prim.Native.Nat.{◌-◌, ◌≤◌}
-use native.Mathlib.Omega.{arith}
-use Rattle.lists.proofs.Parts.{part_at, part_length}
 use Rattle.lists.specs.Choice.{both}
-use Rattle.encode.proofs.CanonicalLaws.{zero_met, zero_ended}
 use Rattle.encode.specs.RecordPlaces.{record_at}
 use Rattle.encode.specs.Canonical.{all_zero}
-use borrow.Author.Rules.{rules}
 use Rattle.encode.proofs.canonical.bare_words.Given as goal
 
 abbrev pub invariant-loop-j : goal.invariant-loop-j

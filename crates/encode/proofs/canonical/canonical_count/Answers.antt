@@ -3,7 +3,6 @@ use native.Mathlib.Omega.{arith}
 use borrow.Author.Tests.{lt-leb, le-leb}
 use Rattle.spec_sheet.specs.Row.{count_of}
 use Rattle.encode.specs.Canonical.{canonical_count}
-use borrow.Author.Rules.{rules}
 use Rattle.encode.proofs.canonical.canonical_count.Goals as goal
 
 pub returns-then-n-gt4 : goal.returns-then-n-gt4

@@ -1,11 +1,7 @@
-use mathlib.Core.Path.{◌≡◌, refl, ◌∙◌}
-use mathlib.Core.List.{[]}
-use lib.ListN.{length, length-set, get_or}
-use Prim.Native.Nat.{ℕ, ◌+◌, ◌-◌, ◌≤◌, ◌<◌}
+use mathlib.Core.Path.{refl, ◌∙◌}
+use lib.ListN.{length-set}
 use native.Mathlib.Omega.{arith}
 use Rattle.encode.proofs.CanonicalLaws.{count_more}
-use Rattle.encode.specs.Canonical.{canonical_count}
-use borrow.Author.Rules.{rules}
 use Rattle.encode.proofs.canonical.canonical_counts.Goals as goal
 
 pub loop-op-init : goal.loop-op-init

@@ -1,11 +1,8 @@
-use mathlib.Core.Path.{◌≡◌, refl, ◌∙◌}
+use mathlib.Core.Path.{◌≡◌}
 use mathlib.Core.List.{[]}
-use lib.ListN.{length, length-set, get_or}
+use lib.ListN.{length, get_or}
 use Prim.Native.Nat.{ℕ, ◌+◌, ◌-◌, ◌≤◌, ◌<◌}
-use native.Mathlib.Omega.{arith}
-use Rattle.encode.proofs.CanonicalLaws.{count_more}
 use Rattle.encode.specs.Canonical.{canonical_count}
-use borrow.Author.Rules.{rules}
 use Rattle.encode.proofs.canonical.canonical_counts.Given as goal
 
 abbrev pub invariant-loop-op : goal.invariant-loop-op

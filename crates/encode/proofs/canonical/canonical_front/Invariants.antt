@@ -1,12 +1,8 @@
-use mathlib.Core.Path.{◌≡◌, refl, sym, ◌∙◌}
-use lib.Seq.{length-take-le}
-use lib.ListN.{length, take, drop, drop_of_length-le}
+use mathlib.Core.Path.{◌≡◌}
+use lib.ListN.{take, drop}
 use Prim.Native.Nat.{◌-◌, ◌*◌, ◌≤◌}
-use native.Mathlib.Omega.{arith}
-use Rattle.encode.proofs.CanonicalLaws.{four_code, pair_canonical, pair_other}
 use Rattle.encode.specs.RecordPlaces.{pairs_at}
 use Rattle.encode.specs.Canonical.{canonical_pairs}
-use borrow.Author.Rules.{rules}
 use Rattle.encode.proofs.canonical.canonical_front.Given as goal
 
 abbrev pub invariant-loop-j : goal.invariant-loop-j

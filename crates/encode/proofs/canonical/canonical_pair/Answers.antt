@@ -1,6 +1,5 @@
 use mathlib.Core.Path.{sym}
 use Rattle.encode.proofs.CanonicalLaws.{no_type, other_kind, same_kind}
-use borrow.Author.Rules.{rules}
 use Rattle.encode.proofs.canonical.canonical_pair.Goals as goal
 
 pub returns-then-code-gt12 : goal.returns-then-code-gt12

@@ -1,6 +1,6 @@
 use mathlib.Core.Path.{◌≡◌, sym, ◌∙◌}
-use lib.ListN.{length, drop, drop_of_length-le}
-use Prim.Native.Nat.{◌-◌, ◌≤◌}
+use lib.ListN.{length, drop_of_length-le}
+use Prim.Native.Nat.{◌≤◌}
 use native.Mathlib.Nat.{sub-zero}
 use native.Mathlib.Omega.{arith}
 use Rattle.encode.proofs.CanonicalLaws.{code_right, code_wrong}

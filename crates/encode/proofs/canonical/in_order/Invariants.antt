@@ -1,11 +1,7 @@
-use mathlib.Core.Path.{◌≡◌, sym, ◌∙◌}
-use lib.ListN.{length, drop, drop_of_length-le}
+use mathlib.Core.Path.{◌≡◌}
+use lib.ListN.{drop}
 use Prim.Native.Nat.{◌-◌, ◌≤◌}
-use native.Mathlib.Nat.{sub-zero}
-use native.Mathlib.Omega.{arith}
-use Rattle.encode.proofs.CanonicalLaws.{code_right, code_wrong}
 use Rattle.encode.specs.Canonical.{in_order}
-use borrow.Author.Rules.{rules}
 use Rattle.encode.proofs.canonical.in_order.Given as goal
 
 abbrev pub invariant-loop-j : goal.invariant-loop-j

@@ -5,7 +5,6 @@ use Prim.Native.Nat.{◌+◌}
 use borrow.Author.Tests.{lt-leb, le-leb, eq-eqb, ne_eqb}
 use Rattle.encode.proofs.CanonicalLaws.{by_words}
 use Rattle.encode.specs.Canonical.{canonical_count}
-use borrow.Author.Rules.{rules}
 use Rattle.encode.proofs.canonical.is_canonical.Goals as goal
 
 pub returns-then-last-opcode : goal.returns-then-last-opcode

@@ -1,7 +1,6 @@
 use native.Mathlib.Omega.{arith}
 use Rattle.lists.proofs.Writes.{kept_length}
 use Rattle.lists.proofs.Aheads.{◌and_then◌, not_ahead}
-use borrow.Author.Rules.{rules}
 use Rattle.encode.proofs.canonical.put_record.Goals as goal
 
 pub put_operands-requires : goal.put_operands-requires

@@ -2,7 +2,6 @@ use mathlib.Core.Path.{sym}
 use lib.ListN.{get_or-eq_default}
 use Rattle.spec_sheet.specs.Types.{widths, width_of}
 use Rattle.encode.proofs.CanonicalLaws.{width_at}
-use borrow.Author.Rules.{rules}
 use Rattle.encode.proofs.canonical.width_in.Goals as goal
 
 pub returns-then-code-gt12 : goal.returns-then-code-gt12

@@ -2,7 +2,6 @@ use Rattle.encode.proofs.EncodeAnswers.{refused, encode_read, encode_none}
 use Rattle.sheet.proofs.SheetAnswers.{few_opcodes}
 use native.Mathlib.Omega.{arith}
 use mathlib.Core.Path.{sym, ◌∙◌}
-use borrow.Author.Rules.{rules}
 use Rattle.encode.proofs.encode.encode.Goals as goal
 
 pub encode_under-requires : goal.encode_under-requires

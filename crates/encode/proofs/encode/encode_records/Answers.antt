@@ -1,8 +1,7 @@
 use mathlib.Core.Path.{refl}
 use native.Mathlib.Omega.{arith}
-use Prim.Native.Nat.{◌-◌}
 use Rattle.lists.proofs.Aheads.{ahead_length}
-use Rattle.encode.proofs.RecordsLoop.{Going, start, turn, stops, cut, ended}
+use Rattle.encode.proofs.RecordsLoop.{start, turn, stops, cut, ended}
 use borrow.Author.Rules.{rules}
 use Rattle.encode.proofs.encode.encode_records.Goals as goal
 

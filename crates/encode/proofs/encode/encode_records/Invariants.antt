@@ -1,9 +1,5 @@
-use mathlib.Core.Path.{refl}
-use native.Mathlib.Omega.{arith}
 use Prim.Native.Nat.{◌-◌}
-use Rattle.lists.proofs.Aheads.{ahead_length}
-use Rattle.encode.proofs.RecordsLoop.{Going, start, turn, stops, cut, ended}
-use borrow.Author.Rules.{rules}
+use Rattle.encode.proofs.RecordsLoop.{Going}
 use Rattle.encode.proofs.encode.encode_records.Given as goal
 
 abbrev pub invariant-loop-i : goal.invariant-loop-i

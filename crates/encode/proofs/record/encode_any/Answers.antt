@@ -2,7 +2,6 @@ use Prim.Native.Nat.{◌*◌}
 use borrow.Author.Tests.{not-true, not-false}
 use Rattle.encode.proofs.RecordLaws.{shape_bad, opcode_beyond, count_other, operands_written}
 use mathlib.Core.Path.{sym, ◌∙◌}
-use borrow.Author.Rules.{rules}
 use Rattle.encode.proofs.record.encode_any.Goals as goal
 
 pub returns-then-not-good_shape : goal.returns-then-not-good_shape

@@ -6,7 +6,6 @@ use native.Mathlib.Omega.{arith}
 use borrow.Author.Tests.{leb-true}
 use Rattle.lists.proofs.Tests.{both_left, both_right}
 use Rattle.encode.proofs.RecordLaws.{canonical_known, turn_canonical, turn_more}
-use borrow.Author.Rules.{rules}
 use Rattle.encode.proofs.record.encode_record.Goals as goal
 
 pub put_record-k-requires : goal.put_record-k-requires

@@ -1,10 +1,10 @@
-use Rattle.encode.proofs.OperandsLoop.{Going, start, ended, stops, refuses, turn}
+use Rattle.encode.proofs.OperandsLoop.{start, ended, stops, refuses, turn}
 use Rattle.encode.proofs.ShapeLaws.{shape_pair}
 use Rattle.operand.proofs.WriteLaws.{fitted_bits, fitted_misfit, pair_kind, value_encoded}
 use Rattle.operand.specs.Write.{fitted_of}
 use Rattle.lists.proofs.Writes.{kept_length}
 use lib.ListN.{length}
-use Prim.Native.Nat.{◌-◌, ◌*◌}
+use Prim.Native.Nat.{◌*◌}
 use native.Mathlib.Omega.{arith}
 use mathlib.Core.Path.{◌≡◌, refl, ap, sym, ◌∙◌}
 use borrow.Author.Rules.{rules}

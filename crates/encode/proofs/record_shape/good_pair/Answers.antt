@@ -1,6 +1,5 @@
 use borrow.Author.Tests.{lt-leb, le-leb}
 use Rattle.spec_body.specs.Encode.{good_pair}
-use borrow.Author.Rules.{rules}
 use Rattle.encode.proofs.record_shape.good_pair.Goals as goal
 
 pub returns-then-kind-gt5 : goal.returns-then-kind-gt5

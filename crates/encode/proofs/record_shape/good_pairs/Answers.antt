@@ -1,8 +1,6 @@
 use Rattle.encode.proofs.ShapeLaws.{pair_good, pair_bad}
-use Rattle.encode.specs.RecordPlaces.{pairs_at}
 use Rattle.spec_body.specs.Encode.{good_pairs}
-use lib.ListN.{drop}
-use Prim.Native.Nat.{◌-◌, ◌*◌, ◌≤◌}
+use Prim.Native.Nat.{◌-◌}
 use native.Mathlib.Omega.{arith}
 use mathlib.Core.Path.{◌≡◌, refl, sym, ◌∙◌}
 use borrow.Author.Rules.{rules}

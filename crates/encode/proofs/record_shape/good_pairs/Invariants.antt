@@ -1,11 +1,8 @@
-use Rattle.encode.proofs.ShapeLaws.{pair_good, pair_bad}
 use Rattle.encode.specs.RecordPlaces.{pairs_at}
 use Rattle.spec_body.specs.Encode.{good_pairs}
 use lib.ListN.{drop}
 use Prim.Native.Nat.{◌-◌, ◌*◌, ◌≤◌}
-use native.Mathlib.Omega.{arith}
-use mathlib.Core.Path.{◌≡◌, refl, sym, ◌∙◌}
-use borrow.Author.Rules.{rules}
+use mathlib.Core.Path.{◌≡◌}
 use Rattle.encode.proofs.record_shape.good_pairs.Given as goal
 
 abbrev pub invariant-loop-i : goal.invariant-loop-i

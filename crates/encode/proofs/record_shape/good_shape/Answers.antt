@@ -4,7 +4,6 @@ use Rattle.spec_body.specs.Encode.{good_shape}
 use native.Mathlib.Omega.{arith}
 use Prim.Native.Nat.{◌+◌}
 use lib.ListN.{get_or}
-use borrow.Author.Rules.{rules}
 use Rattle.encode.proofs.record_shape.good_shape.Goals as goal
 
 pub returns-then-count-gt8 : goal.returns-then-count-gt8

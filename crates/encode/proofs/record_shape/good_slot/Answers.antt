@@ -1,5 +1,4 @@
 use borrow.Author.Tests.{ne_eqb}
-use borrow.Author.Rules.{rules}
 use Rattle.encode.proofs.record_shape.good_slot.Goals as goal
 
 pub returns-then-kind-eq0 : goal.returns-then-kind-eq0

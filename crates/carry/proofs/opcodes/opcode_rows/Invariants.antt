@@ -1,0 +1,17 @@
+use mathlib.Core.List.{[]}
+use Prim.Native.Nat.{◌-◌, ◌≤◌}
+use native.Mathlib.Omega.{arith}
+use lib.ListN.{get_or}
+use Rattle.spec_sheet.specs.Sheet.{find_name}
+use Rattle.spec_inputs.specs.Context.{name_of, context_from}
+use Rattle.carry.specs.Opcodes.{opcode_row}
+use Rattle.carry.proofs.OpcodeLaws.{Made, one_more}
+use borrow.Author.Rules.{rules}
+use Rattle.carry.proofs.opcodes.opcode_rows.Given as goal
+
+abbrev pub invariant-loop-op : goal.invariant-loop-op
+invariant-loop-op l =
+    (l.op ≤ 256) × Made (opcode_row (context_from l.sheet l.types l.ops [] []) (context_from l.sheet2 l.types2 l.ops2 [] [])) l.rows l.op
+
+abbrev pub decreases-loop-op : goal.decreases-loop-op
+decreases-loop-op l = 256 - l.op

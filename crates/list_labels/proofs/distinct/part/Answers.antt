@@ -1,0 +1,22 @@
+use mathlib.Core.Path.{refl}
+use mathlib.Core.Logic.{⊎_elim}
+use Rattle.list_labels.proofs.PartLoop.{Going, start, turn_low, turn_high, all_low, all_high}
+use lib.ListN.{length}
+use Prim.Native.Nat.{◌-◌}
+use borrow.Author.Rules.{rules}
+use Rattle.list_labels.proofs.distinct.part.Goals as goal
+
+pub loop-i-init : goal.loop-i-init
+loop-i-init c = start _ _ _
+
+pub loop-i-preserved : goal.loop-i-preserved
+loop-i-preserved c =
+    let l = c.loop-i in
+    let t = c.loop-i-test.true in
+    ⊎_elim
+    (λ w. turn_low _ _ _ _ _ _ _ l.invariant t _ refl w.0.taken w.1 w.2 w.3)
+    (λ w. turn_high _ _ _ _ _ _ _ l.invariant t _ refl w.0.left c.requires w.1 w.2 w.3)
+    c.if-x-bound.branch
+
+pub returns : goal.returns
+returns c = (search rules, all_low _ _ _ _ _ _ _ c.loop-i.invariant c.loop-i-test.false, all_high _ _ _ _ _ _ _ c.loop-i.invariant c.loop-i-test.false)

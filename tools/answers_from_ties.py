@@ -227,7 +227,7 @@ def blocks(text):
 
 
 def substitute(body, names):
-    return re.sub(r"(?<![^\s(){};,\[]|«)(?:«([^»]+)»|(" + WORD + r"))", lambda m: names.get(m[1] or m[2], m[0]), body)
+    return re.sub(r"(?<![^\s(){};,\[]|«)(?:«([^»]+)»|(" + WORD + r"))(?! = )", lambda m: names.get(m[1] or m[2], m[0]), body)
 
 
 def top_commas(text):
@@ -272,9 +272,9 @@ def as_record(text, goal, own, clauses, data, place, f):
     before = body[:i].rstrip()
     if before and not re.search(r'( in|=|^)$', before):
         return text
-    parts = top_commas(body[i + 1:-1])
+    parts = [p for p in top_commas(body[i + 1:-1]) if p.strip()]
     while len(parts) < len(names) and parts[-1].strip().startswith('(') and parts[-1].strip().endswith(')'):
-        inner = top_commas(parts[-1].strip()[1:-1])
+        inner = [p for p in top_commas(parts[-1].strip()[1:-1]) if p.strip()]
         if len(inner) < 2:
             break
         parts = parts[:-1] + inner
@@ -332,7 +332,11 @@ def convert(folder, key, data, clauses, own):
         names = [n for n in names if n not in gone]
     if sorted(listed) != sorted(names):
         return f'goals {sorted(set(listed) ^ set(names))} are not as listed'
-    needs = data['needs']
+    needs = list(data['needs'])
+    asked_at = list(data['asked_at'])
+    if len(needs) > len(listed):
+        kept = [i for i, n in enumerate(needs) if not n[0].startswith('slice_aggregate')]
+        needs, asked_at = [needs[i] for i in kept], [asked_at[i] for i in kept]
     if len(needs) != len(listed):
         return f'{len(listed)} goals listed, {len(needs)} known: {[n[0] for n in needs]} {listed}'
     loops = data['loops']
@@ -415,7 +419,7 @@ def convert(folder, key, data, clauses, own):
         if body.strip() in TRIVIAL and not unfolding:
             continue
         new = needs[at][1]
-        place = data['asked_at'][at][0]
+        place = asked_at[at][0]
         var = words[0]
         if var.startswith('('):
             return f'{name}: {left}'

@@ -7,7 +7,7 @@ use native.Mathlib.Omega.{arith}
 use lib.Dec.{eqb, ltb}
 use lib.ListN.{length, get_or}
 use borrow.Author.Tests.{eq-eqb, ne_eqb, lt-ltb}
-use Rattle.lists.specs.Choice.{pick, both, within}
+use Rattle.lists.specs.Choice.{both, within}
 use Rattle.lists.specs.Write.{ByWords}
 use Rattle.lists.proofs.Tests.{by_test, by_eqb, both_no_left, true_not_false}
 use Rattle.answers.specs.Outcome.{Outcome}

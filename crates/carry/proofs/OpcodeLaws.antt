@@ -3,16 +3,14 @@ use mathlib.Core.Path.{◌≡◌, refl, ap, sym, ◌∙◌}
 use mathlib.Core.List.{List, [], ◌∷◌}
 use Prim.Native.Nat.{ℕ, ◌+◌, ◌≤◌, ◌<◌}
 use native.Mathlib.Omega.{arith}
-use lib.Dec.{eqb}
 use lib.ListN.{length, get_or, set, length-set}
 use lib.Seq.{take_all, get_or-set_same, get_or-set_other}
-use Rattle.lists.specs.Choice.{pick}
 use Rattle.lists.specs.Found.{Found}
 use Rattle.lists.specs.Found.Found.{found, missing}
 use Rattle.lists.proofs.Tests.{by_eqb}
 use Rattle.slices.specs.Answers.{found_of}
 use Rattle.slices.specs.declared.search.Found.TheVariants.{At, Missing}
-use Rattle.spec_sheet.specs.Row.{length_of, count_of}
+use Rattle.spec_sheet.specs.Row.{length_of}
 use Rattle.spec_sheet.specs.Sheet.{find_name}
 use Rattle.spec_sheet.proofs.OwnNameLaws.{found_below}
 use Rattle.spec_carry.specs.Passes.{or_zero}

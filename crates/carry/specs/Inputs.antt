@@ -3,7 +3,7 @@ use Rattle.std.specs.Prelude.{◌≡◌, List, [], ◌∷◌, ℕ, ◌≤◌}
 use Rattle.answers.specs.Outcome.{Outcome}
 use Rattle.answers.specs.Outcome.Outcome.{refused_with}
 use Rattle.answers.specs.declared.refusal.Refusal.{Refusal}
-use Rattle.spec_sheet.specs.Sheet.{SheetRead, sheet_of}
+use Rattle.spec_sheet.specs.Sheet.{sheet_of}
 use Rattle.sheet.specs.Sheets.{types_in, infos_in}
 use Rattle.spec_carry.specs.Cases.{Case, unless_case}
 use Rattle.spec_carry.specs.Carry.{sheet_case, largest_in}

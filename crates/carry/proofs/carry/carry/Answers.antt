@@ -1,7 +1,6 @@
 use Rattle.spec_carry.specs.Carry.{Given}
 use Rattle.carry.specs.Answers.{carry_report}
 use Rattle.carry.proofs.CarryEnds.{tables_refused, body_few, ends_few, ends₂_few, sheets_refused, read_zeros, read_ends}
-use borrow.Author.Rules.{rules}
 use Rattle.carry.proofs.carry.carry.Goals as goal
 
 pub returns-in-Refused : goal.returns-in-Refused

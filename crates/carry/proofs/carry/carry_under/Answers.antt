@@ -1,5 +1,4 @@
 use Rattle.carry.proofs.PassLaws.{between}
-use borrow.Author.Rules.{rules}
 use Rattle.carry.proofs.carry.carry_under.Goals as goal
 
 pub carry_between-requires : goal.carry_between-requires

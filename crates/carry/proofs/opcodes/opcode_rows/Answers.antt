@@ -1,11 +1,6 @@
-use mathlib.Core.List.{[]}
-use Prim.Native.Nat.{◌-◌, ◌≤◌}
 use native.Mathlib.Omega.{arith}
-use lib.ListN.{get_or}
-use Rattle.spec_sheet.specs.Sheet.{find_name}
-use Rattle.spec_inputs.specs.Context.{name_of, context_from}
-use Rattle.carry.specs.Opcodes.{opcode_row}
-use Rattle.carry.proofs.OpcodeLaws.{Made, one_more}
+use Rattle.spec_inputs.specs.Context.{name_of}
+use Rattle.carry.proofs.OpcodeLaws.{one_more}
 use borrow.Author.Rules.{rules}
 use Rattle.carry.proofs.opcodes.opcode_rows.Goals as goal
 
@@ -15,10 +10,13 @@ loop-op-init c = (search rules, record { size = search rules; made = λ o h. abs
 pub returns-then-last-op : goal.returns-then-last-op
 unfolding name_of
 returns-then-last-op c =
-    let m = c.loop-op.invariant.1 in record { opcode_rows = (λ bytes₁ ends₁ bytes₂ ends₂ o h k. m.made o (omega (arith, c.if-last-op.true))); new_opcodes = ((
+    let m = c.loop-op.invariant.1 in record {
+      opcode_rows = (λ bytes₁ ends₁ bytes₂ ends₂ o h k. m.made o (omega (arith, c.if-last-op.true)));
+      new_opcodes = (
         (λ o h k. (m.small o (omega (arith, c.if-last-op.true))).0),
         (λ o h k. (m.small o (omega (arith, c.if-last-op.true))).1),
-      ),) }
+      );
+    }
 
 pub loop-op-preserved : goal.loop-op-preserved
 unfolding name_of
@@ -29,7 +27,10 @@ loop-op-preserved c =
 pub returns : goal.returns
 unfolding name_of
 returns c =
-    let m = c.loop-op.invariant.1 in record { opcode_rows = (λ bytes₁ ends₁ bytes₂ ends₂ o h k. m.made o (omega (arith, c.loop-op-test.false))); new_opcodes = ((
+    let m = c.loop-op.invariant.1 in record {
+      opcode_rows = (λ bytes₁ ends₁ bytes₂ ends₂ o h k. m.made o (omega (arith, c.loop-op-test.false)));
+      new_opcodes = (
         (λ o h k. (m.small o (omega (arith, c.loop-op-test.false))).0),
         (λ o h k. (m.small o (omega (arith, c.loop-op-test.false))).1),
-      ),) }
+      );
+    }

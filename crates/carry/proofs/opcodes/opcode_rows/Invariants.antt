@@ -1,12 +1,8 @@
 use mathlib.Core.List.{[]}
 use Prim.Native.Nat.{◌-◌, ◌≤◌}
-use native.Mathlib.Omega.{arith}
-use lib.ListN.{get_or}
-use Rattle.spec_sheet.specs.Sheet.{find_name}
-use Rattle.spec_inputs.specs.Context.{name_of, context_from}
+use Rattle.spec_inputs.specs.Context.{context_from}
 use Rattle.carry.specs.Opcodes.{opcode_row}
-use Rattle.carry.proofs.OpcodeLaws.{Made, one_more}
-use borrow.Author.Rules.{rules}
+use Rattle.carry.proofs.OpcodeLaws.{Made}
 use Rattle.carry.proofs.opcodes.opcode_rows.Given as goal
 
 abbrev pub invariant-loop-op : goal.invariant-loop-op

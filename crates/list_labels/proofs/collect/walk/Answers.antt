@@ -67,7 +67,7 @@ loop-at-preserved c =
     let l = c.loop-at in
     let w = c.note_instruction-counts in
     let z = c.byte_index-size.ensures ∙ (c.requires.1 _ (c.shared_slice_known-in-loop-at-1.given l.at).fits c.if-last-op.false).size in
-    turn _ _ _ _ _ _ l.invariant c.loop-at-test.true c.if-last-op.false _ z _ c.if-s-at.false w.auto.1.1.1.1.1.0 w.auto.1.1.1.1.1.1.0 w.ensures.result_after w.ensures.far_bound
+    turn _ _ _ _ _ _ l.invariant c.loop-at-test.true c.if-last-op.false _ z _ c.if-s-at.false w.auto.flags w.auto.stored w.ensures.result_after w.ensures.far_bound
 
 pub shape_of-flags : goal.shape_of-flags
 shape_of-flags c = c.loop-at.invariant.same_flags

@@ -1,10 +1,10 @@
 use mathlib.Core.Path.{refl}
-use mathlib.Core.Logic.{⊎_elim}
 use Rattle.list_labels.proofs.PartLoop.{Going, start, turn_low, turn_high, all_low, all_high}
 use lib.ListN.{length}
 use Prim.Native.Nat.{◌-◌}
 use borrow.Author.Rules.{rules}
 use Rattle.list_labels.proofs.distinct.part.Goals as goal
+use Rattle.list_labels.proofs.distinct.part.Goals.{then-x-bound, else-x-bound}
 
 pub loop-i-init : goal.loop-i-init
 loop-i-init c = start _ _ _
@@ -13,10 +13,10 @@ pub loop-i-preserved : goal.loop-i-preserved
 loop-i-preserved c =
     let l = c.loop-i in
     let t = c.loop-i-test.true in
-    ⊎_elim
-    (λ w. turn_low _ _ _ _ _ _ _ l.invariant t _ refl w.0.taken w.1 w.2 w.3)
-    (λ w. turn_high _ _ _ _ _ _ _ l.invariant t _ refl w.0.left c.requires w.1 w.2 w.3)
-    c.if-x-bound.branch
+    elim c.if-x-bound.branch [
+      then-x-bound w ↦ turn_low _ _ _ _ _ _ _ l.invariant t _ refl w.if-x-bound.true w.n-is w.a-is w.spare-is
+    | else-x-bound w ↦ turn_high _ _ _ _ _ _ _ l.invariant t _ refl w.if-x-bound.false c.requires w.n-is w.a-is w.spare-is
+    ]
 
 pub returns : goal.returns
 returns c = (search rules, all_low _ _ _ _ _ _ _ c.loop-i.invariant c.loop-i-test.false, all_high _ _ _ _ _ _ _ c.loop-i.invariant c.loop-i-test.false)

@@ -32,7 +32,7 @@ loop-i-preserved c =
     let l = c.loop-i in
     let t = c.note_target-c in
     let h : length c.args.row ≡ 8 = search rules in
-    turn _ _ _ _ _ _ _ l.invariant h _ _ c.loop-i-test.true c.width-p.ensures t.auto.flags t.auto.stored.0 t.ensures
+    turn _ _ _ _ _ _ _ l.invariant h _ _ c.loop-i-test.true c.width-p.ensures t.auto.flags t.auto.stored t.ensures
 
 pub shape_of-flags : goal.shape_of-flags
 shape_of-flags c = c.loop-i.invariant.same_flags

@@ -1,0 +1,34 @@
+use native.Mathlib.Omega.{arith}
+use mathlib.Core.Path.{refl, sym, ◌∙◌}
+use lib.ListN.{length}
+use Rattle.limits.specs.Limits.{line_limit}
+use Rattle.hasm_read.proofs.PartLaws.{part_short}
+use Rattle.hasm_labels.proofs.NameLaws.{row_below, name_unknown, name_miscounted, name_sized}
+use borrow.Author.Rules.{rules}
+use Rattle.hasm_labels.proofs.instruction_name.read_name.Goals as goal
+
+pub returns-in_default : goal.returns-in_default
+returns-in_default c =
+    let a = c.args in
+    λ bytes ends. name_unknown _ a.n a.s.now c.skip-k.result c.skip-k.ensures.0 (sym c.in_default.is ∙ c.find_indexed-found.ensures)
+
+pub offset_bounds-types-opcode : goal.offset_bounds-types-opcode
+offset_bounds-types-opcode c = let below = row_below c.args.sheet.now _ c.args.ops.now _ (sym c.in-At.is ∙ c.find_indexed-found.ensures) (omega (arith, c._rows-1.given)) in search (rules, below)
+
+pub bounds-types-opcode : goal.bounds-types-opcode
+bounds-types-opcode c = row_below c.args.sheet.now _ c.args.ops.now _ (sym c.in-At.is ∙ c.find_indexed-found.ensures) (omega (arith, c._rows-1.given))
+
+pub count_operands-given-requires : goal.count_operands-given-requires
+count_operands-given-requires c =
+    let s = c.args.s.now in
+    part_short s s c.skip-a.result (length s) line_limit refl c.requires.s_len_bound
+
+pub returns-then-given-operand_count : goal.returns-then-given-operand_count
+returns-then-given-operand_count c =
+    let a = c.args in
+    λ bytes ends. name_miscounted _ a.n a.s.now c.skip-k.result c.skip-k.ensures.0 _ (sym c.in-At.is ∙ c.find_indexed-found.ensures) c.skip-a.result c.skip-a.ensures.0 _ c.count_operands-given.ensures (λ e. c.if-given-operand_count.true (e ∙ sym c.operand_count.ensures))
+
+pub returns : goal.returns
+returns c =
+    let a = c.args in
+    λ bytes ends. name_sized _ a.n a.s.now c.skip-k.result c.skip-k.ensures.0 _ (sym c.in-At.is ∙ c.find_indexed-found.ensures) c.skip-a.result c.skip-a.ensures.0 _ c.count_operands-given.ensures (c.if-given-operand_count.false ∙ c.operand_count.ensures) _ c.instruction_length.ensures.0 c.instruction_length.ensures.1

@@ -1,0 +1,49 @@
+use mathlib.Core.Path.{◌≡◌, refl, ap, ◌∙◌}
+use mathlib.Core.Bool.{false}
+use native.Mathlib.Omega.{arith}
+use borrow.Author.Tests.{not-false}
+use Rattle.lists.proofs.Tests.{true_not_false}
+use Rattle.hash_index.specs.Hash.{bucket_of}
+use Rattle.hasm_labels.specs.Keys.{KeyPut}
+use Rattle.hasm_labels.proofs.LabelLaws.{labels_none}
+use Rattle.hasm_labels.proofs.LabelWalk.{indexed_none, slot_heads, slot_more}
+use Rattle.hasm_labels.proofs.label_index.index_slots.Goals as goal
+
+pub returns-then-not-has_room : goal.returns-then-not-has_room
+returns-then-not-has_room c = λ e. true_not_false false e refl
+
+pub loop-k-init : goal.loop-k-init
+loop-k-init c =
+    let a = c.args in
+    let b = c.requires.1 in
+    (omega arith, rw (labels_none a.text.now a.labels.now) (indexed_none false a.text.now a.labels.now a.index.now _ a.m c.empty_chains.ensures b.some b.few b.room), refl)
+
+pub put_key-requires : goal.put_key-requires
+put_key-requires c =
+    let a = c.args in
+    let l = c.loop-k in
+    let room = c.has_room.ensures (not-false _ c.if-not-has_room.false-raw) in
+    let h = c.bucket_of-h in
+    let t = c.loop-k-test.true in
+    let e = l.invariant.2 ∙ c.empty_chains.auto.index in
+    (h.ensures.1, omega (arith, room.0, e, t), omega (arith, room.1, t), omega arith, omega (arith, room.1, t, slot_heads a.text.now a.labels.now l.index a.m l.k l.invariant.1 (omega (arith, c.requires.0, t)) h.result h.ensures.1))
+
+pub loop-k-preserved : goal.loop-k-preserved
+loop-k-preserved c =
+    let a = c.args in
+    let l = c.loop-k in
+    let room = c.has_room.ensures (not-false _ c.if-not-has_room.false-raw) in
+    let h = c.bucket_of-h in
+    let t = c.loop-k-test.true in
+    let e = l.invariant.2 ∙ c.empty_chains.auto.index in
+    let s = c.put_key in
+    let b = h.ensures.0 ∙ ap (bucket_of a.m) c.label_text-s.ensures in
+    let put : KeyPut a.m h.result l.k 0 l.index _ = record { bucket = h.ensures.1; room = omega (arith, room.0, e, t); small = omega arith; put = s.ensures } in
+    (omega arith, slot_more a.text.now a.labels.now l.index a.m l.k l.invariant.1 (omega (arith, c.requires.0, t)) _ (omega (arith, c.requires.0, t)) (rw b at put), s.auto.index ∙ l.invariant.2)
+
+pub returns : goal.returns
+returns c =
+    let l = c.loop-k in
+    let a = c.args in
+    let z : l.k ≡ a.n = omega arith in
+    λ e. rw z at l.invariant.1

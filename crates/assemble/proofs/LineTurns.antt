@@ -7,7 +7,7 @@ use Rattle.lists.specs.Found.{Found}
 use Rattle.lists.specs.Scan.{part}
 use Rattle.spec_inputs.specs.Context.{Context}
 use Rattle.spec_hasm.specs.Line.{statement_of}
-use Rattle.spec_hasm.specs.Line.Statement.{nothing, labelled, instruction}
+use Rattle.spec_hasm.specs.Line.Statement.{labelled, instruction}
 use Rattle.hasm_read.specs.Lines.{line_in}
 use Rattle.hasm_read.specs.Statements.{StatementIn}
 use Rattle.hasm_read.specs.declared.statement.Statement.TheVariants as read

@@ -3,7 +3,6 @@ use Rattle.list_labels.specs.Readable.{readable}
 use Rattle.list_labels.specs.OpcodeRows.{opcodes_of}
 use Rattle.spec_body.specs.Decode.{decode_body}
 use native.Mathlib.Omega.{arith}
-use borrow.Author.Rules.{rules}
 use Rattle.list_labels.proofs.collect.collect_label_offsets.Goals as goal
 
 pub overflow_add-near : goal.overflow_add-near

@@ -1,10 +1,6 @@
 use native.Mathlib.Omega.{arith}
-use Prim.Native.Nat.{◌-◌}
 use mathlib.Core.Path.{◌∙◌}
-use lib.ListN.{length}
-use Rattle.list_labels.specs.Notes.{notes_of}
-use Rattle.list_labels.specs.OpcodeRows.{opcodes_of}
-use Rattle.list_labels.proofs.WalkLoop.{Going, start, ended, stopped, broken, turn}
+use Rattle.list_labels.proofs.WalkLoop.{start, ended, stopped, broken, turn}
 use borrow.Author.Rules.{rules}
 use Rattle.list_labels.proofs.collect.walk.Goals as goal
 

@@ -1,9 +1,6 @@
-use mathlib.Core.Path.{refl}
-use mathlib.Core.Logic.{⊎_elim}
-use Rattle.list_labels.proofs.PartLoop.{Going, start, turn_low, turn_high, all_low, all_high}
+use Rattle.list_labels.proofs.PartLoop.{Going}
 use lib.ListN.{length}
 use Prim.Native.Nat.{◌-◌}
-use borrow.Author.Rules.{rules}
 use Rattle.list_labels.proofs.distinct.part.Given as goal
 
 abbrev pub invariant-loop-i : goal.invariant-loop-i

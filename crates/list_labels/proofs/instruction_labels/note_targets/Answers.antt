@@ -1,8 +1,7 @@
-use Rattle.list_labels.proofs.TargetsLoop.{Going, start, operand_inside, turn, all_noted, all_few}
-use Rattle.list_labels.specs.Notes.{notes_of}
+use Rattle.list_labels.proofs.TargetsLoop.{start, operand_inside, turn, all_noted, all_few}
 use lib.ListN.{length}
 use native.Mathlib.Omega.{arith}
-use Prim.Native.Nat.{◌-◌, ◌<◌}
+use Prim.Native.Nat.{◌<◌}
 use mathlib.Core.Path.{◌≡◌}
 use borrow.Author.Rules.{rules}
 use Rattle.list_labels.proofs.instruction_labels.note_targets.Goals as goal

@@ -1,10 +1,6 @@
-use Rattle.list_labels.proofs.TargetsLoop.{Going, start, operand_inside, turn, all_noted, all_few}
+use Rattle.list_labels.proofs.TargetsLoop.{Going}
 use Rattle.list_labels.specs.Notes.{notes_of}
-use lib.ListN.{length}
-use native.Mathlib.Omega.{arith}
-use Prim.Native.Nat.{◌-◌, ◌<◌}
-use mathlib.Core.Path.{◌≡◌}
-use borrow.Author.Rules.{rules}
+use Prim.Native.Nat.{◌-◌}
 use Rattle.list_labels.proofs.instruction_labels.note_targets.Given as goal
 
 abbrev pub invariant-loop-i : goal.invariant-loop-i

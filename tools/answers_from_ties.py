@@ -135,8 +135,8 @@ class Function:
                             break
                     if rest[0] in ('ensures', 'requires') and p[3]:
                         rest = [rest[0]] + self.numbered(p[3], rest[0], rest[1:])
-                    if rest[0] == 'auto' and len(rest) > 1:
-                        rest = ['auto'] + parameter_path(self.data['params'].get(p[3], []), rest[1:])
+                    if rest[0] in ('auto', 'new') and len(rest) > 1:
+                        rest = [rest[0]] + parameter_path(self.data['params'].get(p[3], []), rest[1:])
                 return [p[2][1]] + rest
         self.unknown.append('.'.join(parts))
         return None
@@ -162,7 +162,7 @@ class Function:
             if len(names) > 1:
                 text = re.sub(rf'{start}\.ensures((?:\.[01])+)(?![\w])', lambda k: '.'.join([m[1], 'ensures'] + clause_path(names, k[1].split('.')[1:])), text)
             given = self.data['params'].get(callee, [])
-            text = re.sub(rf'{start}\.auto((?:\.[01])+)(?![\w])', lambda k: '.'.join([m[1], 'auto'] + parameter_path(given, k[1].split('.')[1:])), text)
+            text = re.sub(rf'{start}\.(auto|new)((?:\.[01])+)(?![\w])', lambda k: '.'.join([m[1], k[1]] + parameter_path(given, k[2].split('.')[1:])), text)
         # What a call ensures, under a name of its own: its clauses have names too.
         for m in list(re.finditer(rf'let ({WORD}) = {re.escape(var)}\.({WORD})\.ensures in', text)):
             callee = next((p[3] for p in self.data['places'] if p[2][1] == m[2] and p[3]), None)

@@ -16,7 +16,7 @@ use Rattle.answers.specs.declared.refusal.Refusal.TheVariants.{LongLine}
 use Rattle.spec_inputs.specs.Context.{Context}
 use Rattle.spec_listing.specs.Options.{Options}
 use Rattle.spec_listing.specs.Labels.{label_offsets, among, different}
-use Rattle.spec_listing.specs.Listing.{Listed, long_line, unless_long, list_decoded, listed_text, list_entries}
+use Rattle.spec_listing.specs.Listing.{long_line, unless_long, list_decoded, listed_text, list_entries}
 use Rattle.list_labels.specs.Readable.{readable}
 use Rattle.list_labels.specs.OpcodeRows.{OpcodeRows, opcodes_of, row_labels}
 use Rattle.list_labels.specs.Collecting as collecting

@@ -1,5 +1,5 @@
 -- What the listing's inner functions are asked and answer. Assumes nothing.
-use Rattle.std.specs.Prelude.{◌≡◌, Bool, List, [], ℕ, ◌≤◌, ◌<◌, eqb, length, get_or}
+use Rattle.std.specs.Prelude.{◌≡◌, Bool, List, [], ℕ, ◌<◌, eqb, length, get_or}
 use Rattle.lists.specs.Choice.{pick, both}
 use Rattle.lists.specs.Found.{Found}
 use Rattle.lists.specs.Found.Found.{found, missing}

@@ -8,21 +8,17 @@ use lib.Dec.{eqb}
 use mathlib.Core.List.{[], ◌∷◌}
 use mathlib.Core.Bool.{Bool, true, false}
 use mathlib.Core.Path.{◌≡◌, refl}
-use Rattle.listing.proofs.operand_text.front_byte.Statement.{statement}
-use Rattle.listing.proofs.operand_text.front_byte.Tie as tie
+use Rattle.listing.proofs.operand_text.front_byte.Goals as goal
 
 letter : (b : Bool) → le_bytes (length {A = ℕ} (pick b (76 ∷ []) [])) 76 ≡ pick b (76 ∷ []) []
 unfolding le_bytes
 letter true = refl
 letter false = refl
 
-returns : tie.Need-returns
+pub returns-then-family-eq-REG_FAMILY : goal.returns-then-family-eq-REG_FAMILY
 unfolding front_text le_bytes
-returns c = rw c.if1.true refl
+returns-then-family-eq-REG_FAMILY c = rw c.if-family-eq-REG_FAMILY.true refl
 
-returns-2 : tie.Need-returns-2
+pub returns-else-family-eq-REG_FAMILY : goal.returns-else-family-eq-REG_FAMILY
 unfolding front_text le_bytes
-returns-2 c = rw (ne_eqb _ 1 c.if1.false) (letter (eqb c.before.args.family 4))
-
-pub front-byte-spec : {M : Type 1} → statement M
-front-byte-spec = tie.close (tie.spec returns returns-2)
+returns-else-family-eq-REG_FAMILY c = rw (ne_eqb _ 1 c.if-family-eq-REG_FAMILY.false) (letter (eqb c.args.family 4))

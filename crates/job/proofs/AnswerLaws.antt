@@ -11,11 +11,11 @@ use Rattle.lists.specs.Choice.{pick}
 use Rattle.lists.specs.Found.{Found}
 use Rattle.lists.specs.Found.Found.{found, missing}
 use Rattle.limits.specs.Limits.{job_output, job_labels}
-use Rattle.answers.specs.Report.{Report, zeros}
+use Rattle.answers.specs.Report.{Report}
 use Rattle.answers.specs.Numbers.{numbers_of}
 use Rattle.answers.specs.declared.report.Numbers.{Numbers}
 use Rattle.answers.specs.Refusals.{refusal_report}
-use Rattle.answers.specs.Outcome.{Outcome, Space, produced, sizes, lent, Ended}
+use Rattle.answers.specs.Outcome.{Outcome, produced, sizes, lent, Ended}
 use Rattle.answers.specs.Outcome.Outcome.{refused_with}
 use Rattle.answers.proofs.NumberLaws.{number_some, no_length}
 use Rattle.answers.proofs.OutcomeLaws.{Sound, measured_sound, HowEnded, how_ended, length_within}

@@ -11,7 +11,7 @@ use Rattle.lists.specs.Text.{text}
 use Rattle.lists.specs.Write.{Put, top}
 use Rattle.lists.proofs.Writes.{◌then◌, wrote_none}
 use Rattle.spec_job.specs.Table.{keyed_hex_at, strings_from}
-use Rattle.spec_job.specs.Table.TableRead.{table, fault_after}
+use Rattle.spec_job.specs.Table.TableRead.{fault_after}
 use Rattle.spec_job.proofs.TableLaws.{keyed_spread, string_more, string_off}
 use Rattle.job.specs.HexAnswers.{Lined}
 use Rattle.job.specs.TableAnswers.{Tabled}

@@ -1,0 +1,15 @@
+use native.Mathlib.Omega.{arith}
+use Rattle.answers.proofs.NumberLaws.{same_report}
+use Rattle.job.proofs.AnswerLaws.{length_told}
+use Rattle.job.proofs.PrintLaws.{report_print}
+use Rattle.job.proofs.CarryLaws.{carried_prints}
+use Rattle.job.proofs.carry_job.print_carried.Goals as goal
+
+pub put_answer-requires : goal.put_answer-requires
+put_answer-requires c = (omega (arith, length_told c.carry_numbers.ensures, c.carry_inputs-a.ensures.result_in_bounds, c.carry_inputs-a.auto), omega (arith, c.carry_inputs-a.auto))
+
+pub returns : goal.returns
+returns c = λ os os₂ t o a t₂ o₂.
+    let x = c.args in
+    carried_prints x.job.now (record { opcodes = os; bytes = x.bytes.now; ends = x.ends.now }) (record { opcodes = os₂; bytes = x.bytes2.now; ends = x.ends2.now }) x.body.now _ _ _ (omega arith) (c.carry_inputs-a.ensures.ended os os₂ t o a t₂ o₂)
+    (report_print _ _ _ _ (same_report c.carry_numbers.ensures) c.put_answer.ensures)

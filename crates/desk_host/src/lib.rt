@@ -1,5 +1,5 @@
-// The desk's functions for the host, called from C on numbers and slices: each is the proved operation with its answer as
-// four numbers.
+// The desk's functions for the host, on numbers and slices: each is the proved operation with its answer as four numbers.
+// The crate desk_host_c has them for C.
 #![tactic(auto)]
 
 ghost use Rattle.std.specs.Prelude.{◌≡◌, [], ◌∷◌, length};
@@ -20,16 +20,14 @@ use hasm_labels::label_entry::Slot;
 use listing::options::Options;
 
 // Decodes a body under a sheet into records of 20 words.
-#[unsafe(no_mangle)]
-pub extern "C" fn desk_decode(sheet: &[u8], body: &[u8], out: &mut [u64]) -> Numbers
+pub fn desk_decode(sheet: &[u8], body: &[u8], out: &mut [u64]) -> Numbers
     ensures { Ended (operation.decode sheet.now body.now) out.old [] out.new (report_in result) }
 {
     decode_numbers(decode::instructions::decode(sheet, body, out))
 }
 
 // Decodes one function of an area.
-#[unsafe(no_mangle)]
-pub extern "C" fn desk_decode_function(
+pub fn desk_decode_function(
     sheet: &[u8],
     functions: &[u32],
     area: &[u8],
@@ -43,16 +41,14 @@ pub extern "C" fn desk_decode_function(
 }
 
 // Encodes records of 20 words under a sheet into a body.
-#[unsafe(no_mangle)]
-pub extern "C" fn desk_encode(sheet: &[u8], words: &[u64], out: &mut [u8]) -> Numbers
+pub fn desk_encode(sheet: &[u8], words: &[u64], out: &mut [u8]) -> Numbers
     ensures { Ended (operation.encode sheet.now words.now) out.old [] out.new (report_in result) }
 {
     encode_numbers(encode::encode::encode(sheet, words, out))
 }
 
 // Lists a body under a sheet and a string table, with offsets, labels and texts shown or not.
-#[unsafe(no_mangle)]
-pub extern "C" fn desk_list(
+pub fn desk_list(
     sheet: &[u8],
     bytes: &[u8],
     ends: &[u32],
@@ -77,8 +73,7 @@ pub extern "C" fn desk_list(
 }
 
 // Lists one function of an area; offsets count from `base`.
-#[unsafe(no_mangle)]
-pub extern "C" fn desk_list_function(
+pub fn desk_list_function(
     sheet: &[u8],
     bytes: &[u8],
     ends: &[u32],
@@ -106,8 +101,7 @@ pub extern "C" fn desk_list_function(
 }
 
 // Lists all functions of an area, each under its banner.
-#[unsafe(no_mangle)]
-pub extern "C" fn desk_list_module(
+pub fn desk_list_module(
     sheet: &[u8],
     bytes: &[u8],
     ends: &[u32],
@@ -134,8 +128,7 @@ pub extern "C" fn desk_list_module(
 }
 
 // Assembles a text under a sheet and a string table. A label entry is three words.
-#[unsafe(no_mangle)]
-pub extern "C" fn desk_assemble(
+pub fn desk_assemble(
     sheet: &[u8],
     bytes: &[u8],
     ends: &[u32],
@@ -152,8 +145,7 @@ pub extern "C" fn desk_assemble(
 }
 
 // Carries a body from a sheet and string table to another.
-#[unsafe(no_mangle)]
-pub extern "C" fn desk_carry(
+pub fn desk_carry(
     sheet: &[u8],
     bytes: &[u8],
     ends: &[u32],

@@ -1,6 +1,6 @@
-// The desk's leaves as C functions, for comparing each of them with the Rust that it was ported from. Those that print
-// keep to `Put` at position 0: they return the length of the whole text. Where `out` is longer, the bytes behind the text
-// stay as they were; where it is shorter, it holds as much of the text's front as it has room for.
+// The desk's leaves, for comparing each of them with the Rust that it was ported from; the crate desk_parts_c has them for C.
+// Those that print keep to `Put` at position 0: they return the length of the whole text. Where `out` is longer, the bytes
+// behind the text stay as they were; where it is shorter, it holds as much of the text's front as it has room for.
 #![tactic(auto)]
 
 ghost use Rattle.std.specs.Prelude.{◌≡◌, false};
@@ -60,48 +60,42 @@ pub fn part_of_found(a: Found) -> PartNumber
 }
 
 // Reads a u32 in decimal.
-#[unsafe(no_mangle)]
-pub extern "C" fn part_parse_u32(text: &[u8]) -> PartNumber
+pub fn part_parse_u32(text: &[u8]) -> PartNumber
     ensures { result ≡ part_of_number (number_of (parse_u32 text.now)) }
 {
     part_of_number(numbers::parse::parse_u32(text))
 }
 
 // Reads a u32 in hexadecimal.
-#[unsafe(no_mangle)]
-pub extern "C" fn part_parse_hex(text: &[u8]) -> PartNumber
+pub fn part_parse_hex(text: &[u8]) -> PartNumber
     ensures { result ≡ part_of_number (number_of (parse_hex text.now)) }
 {
     part_of_number(numbers::parse::parse_hex(text))
 }
 
 // Reads an i32 in decimal; the value is its 32 bits.
-#[unsafe(no_mangle)]
-pub extern "C" fn part_parse_i32(text: &[u8]) -> PartNumber
+pub fn part_parse_i32(text: &[u8]) -> PartNumber
     ensures { result ≡ part_of_number (number_of (parse_i32 text.now)) }
 {
     part_of_number(numbers::parse::parse_i32(text))
 }
 
 // Reads a double; the value is its 64 bits.
-#[unsafe(no_mangle)]
-pub extern "C" fn part_parse_double(text: &[u8]) -> PartNumber
+pub fn part_parse_double(text: &[u8]) -> PartNumber
     ensures { result ≡ part_of_number (number_of (read_double text.now)) }
 {
     part_of_number(numbers::read_double::read_double(text))
 }
 
 // Prints a number in decimal.
-#[unsafe(no_mangle)]
-pub extern "C" fn part_print_decimal(n: u64, out: &mut [u8]) -> usize
+pub fn part_print_decimal(n: u64, out: &mut [u8]) -> usize
     ensures { Put out.old 0 (decimal n) out.new result }
 {
     numbers::print_decimal::put_decimal(out, 0, n)
 }
 
 // Prints the signed number of 32 bits in decimal.
-#[unsafe(no_mangle)]
-pub extern "C" fn part_print_signed(bits: u32, out: &mut [u8]) -> usize
+pub fn part_print_signed(bits: u32, out: &mut [u8]) -> usize
     ensures { Put out.old 0 (signed_decimal (signed 32 bits)) out.new result }
 {
     let mut text = [0u8; 32];
@@ -110,55 +104,48 @@ pub extern "C" fn part_print_signed(bits: u32, out: &mut [u8]) -> usize
 }
 
 // Prints `{:04x}`.
-#[unsafe(no_mangle)]
-pub extern "C" fn part_print_hex4(n: u64, out: &mut [u8]) -> usize
+pub fn part_print_hex4(n: u64, out: &mut [u8]) -> usize
     ensures { Put out.old 0 (hex_lower4 n) out.new result }
 {
     numbers::print_hex::put_hex_lower4(out, 0, n)
 }
 
 // Prints the double of 64 bits.
-#[unsafe(no_mangle)]
-pub extern "C" fn part_print_double(bits: u64, out: &mut [u8]) -> usize
+pub fn part_print_double(bits: u64, out: &mut [u8]) -> usize
     ensures { Put out.old 0 (print_double bits) out.new result }
 {
     numbers::print_double::put_double(out, 0, bits)
 }
 
 // Prints a text escaped and between quotes.
-#[unsafe(no_mangle)]
-pub extern "C" fn part_escape(text: &[u8], out: &mut [u8]) -> usize
+pub fn part_escape(text: &[u8], out: &mut [u8]) -> usize
     ensures { Put out.old 0 (quoted text.now) out.new result }
 {
     strings::escapes::put_quoted(out, 0, text)
 }
 
 // Reads what stands between quotes.
-#[unsafe(no_mangle)]
-pub extern "C" fn part_unescape(text: &[u8], out: &mut [u8]) -> usize
+pub fn part_unescape(text: &[u8], out: &mut [u8]) -> usize
     ensures { Put out.old 0 (unescape false text.now) out.new result }
 {
     strings::unescape::put_unescaped(out, 0, text)
 }
 
-#[unsafe(no_mangle)]
-pub extern "C" fn part_is_utf8(text: &[u8]) -> bool
+pub fn part_is_utf8(text: &[u8]) -> bool
     ensures { result ≡ is_utf8 text.now }
 {
     strings::utf8::is_utf8(text)
 }
 
 // The first entry of a string table that is refused with 17.
-#[unsafe(no_mangle)]
-pub extern "C" fn part_table_fault(bytes: &[u8], ends: &[u32]) -> PartNumber
+pub fn part_table_fault(bytes: &[u8], ends: &[u32]) -> PartNumber
     ensures { result ≡ part_of_found (found_of (fault bytes.now ends.now)) }
 {
     part_of_found(strings::table::find_fault(bytes, ends))
 }
 
 // The first id of a string table whose text is equal.
-#[unsafe(no_mangle)]
-pub extern "C" fn part_lookup(text: &[u8], bytes: &[u8], ends: &[u32]) -> PartNumber
+pub fn part_lookup(text: &[u8], bytes: &[u8], ends: &[u32]) -> PartNumber
     ensures { result ≡ part_of_found (found_of (lookup text.now bytes.now ends.now)) }
 {
     part_of_found(strings::table::lookup(text, bytes, ends))

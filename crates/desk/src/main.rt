@@ -2,8 +2,9 @@
 #![tactic(auto)]
 
 use job::run::RunAnswer;
-use libc::{STDIN_FILENO, STDOUT_FILENO};
+use reading::read_full;
 use slices::part::part_of;
+use std::io;
 
 // One byte more than a job may have, so that a longer one is seen. No contract, since the type says the length.
 fn job_space() -> [u8; 65537] {
@@ -15,16 +16,13 @@ fn text_space() -> [u8; 131078] {
     [0; 131078]
 }
 
-fn main() {
+fn main(rt: HostRuntime) -> io::Result<()> {
     let mut job = job_space();
-    let n = io::read_full(STDIN_FILENO, &mut job);
+    let n = read_full(&mut rt.stdin(), &mut job)?;
     let mut text = text_space();
-    let a = job::run::run(&job[..n], &mut text);
-    match a {
-        RunAnswer::Done(k) => {
-            io::write_all(STDOUT_FILENO, part_of(&text, 0, k));
-        }
+    match job::run::run(&job[..n], &mut text) {
+        RunAnswer::Done(k) => rt.write_all(part_of(&text, 0, k)),
         // There is room for all that a job may print.
-        RunAnswer::Short => {}
+        RunAnswer::Short => Ok(()),
     }
 }

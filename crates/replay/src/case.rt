@@ -1,9 +1,51 @@
-// Reading a case from standard input.
-ghost use Rattle.std.specs.Prelude.{◌≡◌, ◌<◌};
+// Reading a case from standard input. A read that fails ends the input, and the source keeps the failure for `main`.
+ghost use Rattle.std.specs.Prelude.{◌≡◌, ◌<◌, ◌≤◌, length};
 ghost use Rattle.replay.specs.Cases.{number_at, head_of, Reads, Fronted, PartsRead};
 
-use libc::STDIN_FILENO;
 use numbers::little_endian::read_le;
+use reading::read_full;
+use std::io;
+use std::io::Stdin;
+
+// Standard input, and the failure of the read that ended it, if one failed. Behind a failure there is no further byte.
+#[derive(Drop)]
+pub struct Source {
+    stdin: Stdin,
+    failure: Option<io::Error>,
+}
+
+impl Source {
+    pub fn new(stdin: Stdin) -> Self {
+        Source {
+            stdin,
+            failure: None,
+        }
+    }
+
+    // Reads to the front of s until it is full or there is no further byte, and answers how many bytes are there.
+    fn fill(&mut self, s: &mut [u8]) -> usize
+        ensures { result ≤ length s.new }
+    {
+        if self.failure.is_some() {
+            return 0;
+        }
+        match read_full(&mut self.stdin, s) {
+            Ok(n) => n,
+            Err(e) => {
+                self.failure = Some(e);
+                0
+            }
+        }
+    }
+
+    // Whether all reads succeeded: the failure, if one failed.
+    pub fn finish(self) -> io::Result<()> {
+        match self.failure {
+            None => Ok(()),
+            Some(e) => Err(e),
+        }
+    }
+}
 
 // The numbers in front of a case.
 #[derive(Clone, Copy)]
@@ -58,11 +100,11 @@ fn head_of(b: &[u8; 36]) -> Head
 }
 
 // The next case's numbers, or that there is no further case.
-pub fn read_head() -> HeadRead
+pub fn read_head(source: &mut Source) -> HeadRead
     ensures { Reads result }
 {
     let mut b = [0u8; 36];
-    let got = io::read_full(STDIN_FILENO, &mut b);
+    let got = source.fill(&mut b);
     if got == 0 {
         return HeadRead::End;
     }
@@ -73,30 +115,36 @@ pub fn read_head() -> HeadRead
 }
 
 // Reads n bytes to the front of s, and answers whether they fit and were all there.
-fn read_front(s: &mut [u8], n: usize) -> bool
+fn read_front(source: &mut Source, s: &mut [u8], n: usize) -> bool
     ensures { Fronted s.old n s.new result }
 {
     if s.len() < n {
         return false;
     }
-    io::read_full(STDIN_FILENO, &mut s[0..n]) == n
+    source.fill(&mut s[0..n]) == n
 }
 
 // Reads the sheet, the input and the expected output, each to the front of its space.
-pub fn read_parts(head: Head, sheet: &mut [u8], input: &mut [u8], expected: &mut [u8]) -> bool
+pub fn read_parts(
+    source: &mut Source,
+    head: Head,
+    sheet: &mut [u8],
+    input: &mut [u8],
+    expected: &mut [u8],
+) -> bool
     ensures { PartsRead head sheet.old input.old expected.old sheet.new input.new expected.new result }
 {
-    if !read_front(sheet, head.sheet) {
+    if !read_front(source, sheet, head.sheet) {
         return false;
     }
-    if !read_front(input, head.input) {
+    if !read_front(source, input, head.input) {
         return false;
     }
-    read_front(expected, head.expected)
+    read_front(source, expected, head.expected)
 }
 
 // Whether standard input has no further byte.
-pub fn at_end() -> bool {
+pub fn at_end(source: &mut Source) -> bool {
     let mut b = [0u8; 1];
-    io::read_full(STDIN_FILENO, &mut b) == 0
+    source.fill(&mut b) == 0
 }

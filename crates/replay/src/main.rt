@@ -55,10 +55,10 @@ ghost use Rattle.std.specs.Prelude.{◌≡◌, length};
 ghost use Rattle.replay.specs.Cases.{sheet_size};
 ghost use Rattle.replay.specs.Turns.{compared_on, case_turn, Tried, Next, Replayed};
 
-use crate::case::{Head, HeadRead};
+use crate::case::{Head, HeadRead, Source};
 use crate::parts::Performed;
-use libc::STDOUT_FILENO;
 use slices::part::part_of;
+use std::io;
 
 // Why the replay stops at a case.
 #[derive(Clone, Copy)]
@@ -125,6 +125,7 @@ fn sheet_size(head: Head, used: usize) -> usize
 
 // Reads the parts of a case, and compares.
 fn try_case(
+    source: &mut Source,
     head: Head,
     used: usize,
     sheet: &mut [u8],
@@ -133,7 +134,7 @@ fn try_case(
 ) -> Turn
     ensures { Tried head used sheet.old sheet.new input.new expected.new result }
 {
-    if !crate::case::read_parts(head, sheet, input, expected) {
+    if !crate::case::read_parts(source, head, sheet, input, expected) {
         return Turn::Stops(Stop::Broken);
     }
     lend(
@@ -145,19 +146,25 @@ fn try_case(
 }
 
 // The next case.
-fn next_case(used: usize, sheet: &mut [u8], input: &mut [u8], expected: &mut [u8]) -> Turn
+fn next_case(
+    source: &mut Source,
+    used: usize,
+    sheet: &mut [u8],
+    input: &mut [u8],
+    expected: &mut [u8],
+) -> Turn
     ensures { Next used sheet.old sheet.new input.new expected.new result }
 {
-    match crate::case::read_head() {
-        HeadRead::Is(head) => try_case(head, used, sheet, input, expected),
+    match crate::case::read_head(source) {
+        HeadRead::Is(head) => try_case(source, head, used, sheet, input, expected),
         HeadRead::End => Turn::Stops(Stop::End),
         HeadRead::Broken => Turn::Stops(Stop::Broken),
     }
 }
 
 // Behind the last case that may be there.
-fn last_stop() -> Stop {
-    if crate::case::at_end() {
+fn last_stop(source: &mut Source) -> Stop {
+    if crate::case::at_end(source) {
         Stop::End
     } else {
         Stop::Broken
@@ -165,13 +172,13 @@ fn last_stop() -> Stop {
 }
 
 // All cases.
-fn replay(sheet: &mut [u8], input: &mut [u8], expected: &mut [u8]) -> Outcome
+fn replay(source: &mut Source, sheet: &mut [u8], input: &mut [u8], expected: &mut [u8]) -> Outcome
     ensures { Replayed result }
 {
     let mut used: usize = 0;
     let mut n: u64 = 0;
     while n < MOST_CASES {
-        let t = next_case(used, sheet, input, expected);
+        let t = next_case(source, used, sheet, input, expected);
         match t {
             Turn::Agrees(s) => {
                 used = s;
@@ -183,23 +190,18 @@ fn replay(sheet: &mut [u8], input: &mut [u8], expected: &mut [u8]) -> Outcome
         n += 1;
     }
     Outcome {
-        stop: last_stop(),
+        stop: last_stop(source),
         agreed: n,
     }
 }
 
-fn say(word: &[u8], n: u64) {
-    io::write_all(STDOUT_FILENO, word);
-    io::print_decimal(STDOUT_FILENO, n);
-    io::write_all(STDOUT_FILENO, b"\n");
-}
-
-fn tell(o: Outcome) {
-    let stop = o.stop;
-    match stop {
-        Stop::Differs => say(b"differs=", o.agreed),
-        Stop::Broken => say(b"broken=", o.agreed),
-        Stop::End => say(b"agree=", o.agreed),
+// The line that says how many cases agree, or which is the first that does not.
+fn tell(rt: &impl Print, o: Outcome) -> io::Result<()> {
+    let n = o.agreed;
+    match o.stop {
+        Stop::Differs => println!(rt; "differs={n}"),
+        Stop::Broken => println!(rt; "broken={n}"),
+        Stop::End => println!(rt; "agree={n}"),
     }
 }
 
@@ -212,9 +214,13 @@ fn byte_space() -> [u8; 65536] {
     [0; 65536]
 }
 
-fn main() {
+// A read that failed is the answer, whatever came of the cases before.
+fn main(rt: HostRuntime) -> io::Result<()> {
+    let mut source = Source::new(rt.stdin());
     let mut sheet = sheet_space();
     let mut input = byte_space();
     let mut expected = byte_space();
-    tell(replay(&mut sheet, &mut input, &mut expected));
+    let outcome = replay(&mut source, &mut sheet, &mut input, &mut expected);
+    source.finish()?;
+    tell(&rt, outcome)
 }

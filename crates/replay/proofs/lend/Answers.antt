@@ -1,0 +1,17 @@
+use mathlib.Core.Path.{◌∙◌}
+use native.Mathlib.Omega.{arith}
+use Rattle.replay.proofs.WordLaws.{front_length}
+use Rattle.replay.proofs.TurnLaws.{too_many, lent_some}
+use borrow.Author.Rules.{rules}
+use Rattle.replay.proofs.lend.Goals as goal
+
+pub returns-then-size-gt65536 : goal.returns-then-size-gt65536
+returns-then-size-gt65536 c =
+    let a = c.args in
+    too_many a.head a.sheet.now a.input.now a.expected.now c.lent_size-size.ensures c.if-size-gt65536.true
+
+pub returns : goal.returns
+returns c =
+    let a = c.args in
+    c.compared.ensures
+    ∙ lent_some a.head a.sheet.now a.input.now a.expected.now c.lent_size-size.ensures c.if-size-gt65536.false _ (front_length c.byte_space-lent.result c.lent_size-size.result (omega (arith, c.byte_space-lent.type_inv, c.if-size-gt65536.false)))

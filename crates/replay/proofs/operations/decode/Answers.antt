@@ -1,0 +1,16 @@
+use native.Mathlib.Omega.{arith}
+use Prim.Native.Nat.{◌/◌}
+use lib.ListN.{length}
+use Rattle.replay.proofs.WordLaws.{front_length}
+use mathlib.Core.Path.{◌∙◌}
+use Rattle.replay.proofs.OperationLaws.{decoded_large, decoded_small}
+use borrow.Author.Rules.{rules}
+use Rattle.replay.proofs.operations.decode.Goals as goal
+
+pub returns-then-n-gt8192 : goal.returns-then-n-gt8192
+returns-then-n-gt8192 c = decoded_large _ _ _ c.if-n-gt8192.true
+
+pub returns : goal.returns
+returns c =
+    let a = c.args in
+    c.decode_words.ensures ∙ decoded_small a.sheet.now a.body.now a.lent.now c.if-n-gt8192.false _ (front_length c.word_space-words.result (length a.lent.now / 8) (omega (arith, c.word_space-words.type_inv)))

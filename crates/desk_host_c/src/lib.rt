@@ -63,7 +63,9 @@ pub extern "C" fn desk_list(
     ensures ended { Ended (listing.list (options_from offsets labels texts) sheet.now bytes.now ends.now body.now) out.old (length entries.old ∷ []) out.new (report_in result) }
     ensures entries_after { entries.new ≡ cleared 0 entries.old }
 {
-    desk_host::desk_list(sheet, bytes, ends, body, offsets, labels, texts, out, entries)
+    desk_host::desk_list(
+        sheet, bytes, ends, body, offsets, labels, texts, out, entries,
+    )
 }
 
 // Lists one function of an area; offsets count from `base`.
@@ -85,7 +87,9 @@ pub extern "C" fn desk_list_function(
     ensures ended { Ended (listing.list_function (options_from offsets labels texts) sheet.now bytes.now ends.now (area_of functions.now area.now base) id) out.old (length entries.old ∷ []) out.new (report_in result) }
     ensures entries_after { entries.new ≡ cleared 0 entries.old }
 {
-    desk_host::desk_list_function(sheet, bytes, ends, functions, area, base, id, offsets, labels, texts, out, entries)
+    desk_host::desk_list_function(
+        sheet, bytes, ends, functions, area, base, id, offsets, labels, texts, out, entries,
+    )
 }
 
 // Lists all functions of an area, each under its banner.
@@ -106,7 +110,9 @@ pub extern "C" fn desk_list_module(
     ensures ended { Ended (listing.list_module (options_from offsets labels texts) sheet.now bytes.now ends.now (area_of functions.now area.now base)) out.old (length entries.old ∷ []) out.new (report_in result) }
     ensures entries_after { entries.new ≡ cleared 0 entries.old }
 {
-    desk_host::desk_list_module(sheet, bytes, ends, functions, area, base, offsets, labels, texts, out, entries)
+    desk_host::desk_list_module(
+        sheet, bytes, ends, functions, area, base, offsets, labels, texts, out, entries,
+    )
 }
 
 // Assembles a text under a sheet and a string table. A label entry is three words.

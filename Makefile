@@ -10,12 +10,12 @@ DESTDIR =
 CFLAGS = -O2
 
 kit := target/host-kit
-archive := target/staticlib/libdesk_host.a
+archive := crates/desk_host_c/out/libdesk_host_c.a
 header := include/desk.h
 version := $(shell sed -n 's/^\#define DESK_VERSION "\(.*\)"$$/\1/p' $(header))
 major := $(shell sed -n 's/^\#define DESK_VERSION_MAJOR //p' $(header))
 # What rt proves: where one of them is newer than the archive, rt is asked, and it decides what is to be proved again.
-sources := crates.txt $(shell find crates -name '*.rt' -o -name '*.antt')
+sources := crates.txt $(shell find crates -name out -prune -o \( -name '*.rt' -o -name '*.antt' \) -print)
 compile = $(CC) -std=c11 -fPIC -Wall -Wextra -Werror $(CFLAGS) -Iinclude
 library := libdesk.so.$(version)
 soname := libdesk.so.$(major)
@@ -23,13 +23,12 @@ soname := libdesk.so.$(major)
 all: $(kit)/libdesk.a $(kit)/libdesk.so
 
 $(archive): $(sources)
-	rt staticlib desk_host
-	@touch $@
+	host/archive desk_host_c
 
 # The Rattle compiler's object, out of its archive.
-$(kit)/desk_host.o: $(archive)
+$(kit)/desk_host_c.o: $(archive)
 	@mkdir -p $(kit)
-	cd $(kit) && ar x '$(CURDIR)/$(archive)' desk_host.o
+	cd $(kit) && ar x '$(CURDIR)/$(archive)' desk_host_c.o
 
 $(kit)/explain.c: host/make-explain host/refusals.tsv
 	@mkdir -p $(kit)
@@ -44,7 +43,7 @@ $(kit)/version.c: always
 $(kit)/explain.o $(kit)/version.o: $(kit)/%.o: $(kit)/%.c $(header)
 	$(compile) -c -o $@ $<
 
-objects := $(addprefix $(kit)/,desk_host.o explain.o version.o)
+objects := $(addprefix $(kit)/,desk_host_c.o explain.o version.o)
 
 $(kit)/libdesk.a: $(objects)
 	rm -f $@

@@ -1,10 +1,11 @@
-// Links desk_carry's archive from the folder that DESK_LIB names, where the feature desk asks for it.
+// Links the archive that has desk_carry, where the feature desk asks for it. DESK_CRATES names the folder of the crates.
 fn main() {
-    println!("cargo:rerun-if-env-changed=DESK_LIB");
+    println!("cargo:rerun-if-env-changed=DESK_CRATES");
     if std::env::var_os("CARGO_FEATURE_DESK").is_none() {
         return;
     }
-    let lib = std::env::var("DESK_LIB").expect("DESK_LIB names the folder of the archive");
-    println!("cargo:rustc-link-arg={lib}/libdesk_host.a");
-    println!("cargo:rerun-if-changed={lib}/libdesk_host.a");
+    let crates = std::env::var("DESK_CRATES").expect("DESK_CRATES names the folder of the crates");
+    let archive = format!("{crates}/desk_host_c/out/libdesk_host_c.a");
+    println!("cargo:rustc-link-arg={archive}");
+    println!("cargo:rerun-if-changed={archive}");
 }

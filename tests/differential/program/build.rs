@@ -1,9 +1,10 @@
-// Links the desk's archives from the folder that DESK_LIB names, behind the driver, which is what needs them.
+// Links the desk's archives behind the driver, which is what needs them. DESK_CRATES names the folder of the crates.
 fn main() {
-    let lib = std::env::var("DESK_LIB").expect("DESK_LIB names the folder of the archives");
-    for name in ["desk_host", "desk_parts"] {
-        println!("cargo:rustc-link-arg={lib}/lib{name}.a");
-        println!("cargo:rerun-if-changed={lib}/lib{name}.a");
+    let crates = std::env::var("DESK_CRATES").expect("DESK_CRATES names the folder of the crates");
+    for name in ["desk_host_c", "desk_parts_c"] {
+        let archive = format!("{crates}/{name}/out/lib{name}.a");
+        println!("cargo:rustc-link-arg={archive}");
+        println!("cargo:rerun-if-changed={archive}");
     }
-    println!("cargo:rerun-if-env-changed=DESK_LIB");
+    println!("cargo:rerun-if-env-changed=DESK_CRATES");
 }

@@ -13,7 +13,7 @@ use Rattle.lists.specs.Write.{Put, put}
 use Rattle.lists.proofs.Parts.{tail_part}
 use Rattle.lists.proofs.Tests.{true_not_false}
 use Rattle.spec_numbers.specs.LittleEndian.{le}
-use Rattle.answers.specs.Report.{Report, success, shortage, written}
+use Rattle.answers.specs.Report.{Report, success, shortage}
 use Rattle.answers.specs.Outcome.{Outcome, Ended, report, outputs_after, is_short, sizes, exceeds}
 use Rattle.answers.specs.Outcome as outcome
 use Rattle.answers.specs.Numbers.{report_in}

@@ -1,8 +1,6 @@
 use mathlib.Core.Path.{sym, ◌∙◌}
 use lib.ListN.{length}
-use borrow.Author.Tests.{not-true, not-false}
 use Rattle.replay.proofs.TurnLaws.{not_clear, no_case, other_answer, other_bytes, as_recorded}
-use borrow.Author.Rules.{rules}
 use Rattle.replay.proofs.compared.Goals as goal
 
 pub returns-then-not-same_answer : goal.returns-then-not-same_answer

@@ -2,7 +2,6 @@ use mathlib.Core.Path.{◌∙◌}
 use native.Mathlib.Omega.{arith}
 use Rattle.replay.proofs.WordLaws.{front_length}
 use Rattle.replay.proofs.TurnLaws.{too_many, lent_some}
-use borrow.Author.Rules.{rules}
 use Rattle.replay.proofs.lend.Goals as goal
 
 pub returns-then-size-gt65536 : goal.returns-then-size-gt65536

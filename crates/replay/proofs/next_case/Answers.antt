@@ -1,7 +1,6 @@
 use mathlib.Core.Path.{refl}
 use Rattle.replay.specs.Turns.Next.{none, cut}
 use Rattle.replay.proofs.TurnLaws.{next_tried}
-use borrow.Author.Rules.{rules}
 use Rattle.replay.proofs.next_case.Goals as goal
 
 pub returns-in-Is : goal.returns-in-Is

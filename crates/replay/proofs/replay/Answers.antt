@@ -1,4 +1,4 @@
-use Rattle.std.proofs.Common.{◌≤◌, arith}
+use Rattle.std.proofs.Common.{arith}
 use Rattle.replay.specs.Turns.Agreed.{start}
 use Rattle.replay.proofs.TurnLaws.{agrees_too, was_stopped, was_full}
 use Rattle.replay.proofs.replay.Goals as goal

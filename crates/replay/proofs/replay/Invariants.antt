@@ -1,4 +1,4 @@
-use Rattle.std.proofs.Common.{◌≡◌, ◌-◌, ◌≤◌, length}
+use Rattle.std.proofs.Common.{◌-◌, ◌≤◌}
 use Rattle.replay.specs.Turns.{Agreed}
 use Rattle.replay.proofs.replay.Given as goal
 

@@ -1,7 +1,6 @@
 use mathlib.Core.Path.{refl}
 use Rattle.replay.specs.Turns.Tried.{unread}
 use Rattle.replay.proofs.TurnLaws.{tried_parts}
-use borrow.Author.Rules.{rules}
 use Rattle.replay.proofs.try_case.Goals as goal
 
 pub returns-then-not-read_parts : goal.returns-then-not-read_parts

@@ -1,7 +1,6 @@
 use lib.ListN.{length}
 use mathlib.Core.Path.{◌∙◌}
 use Rattle.replay.proofs.OperationLaws.{parts_short, parts_whole}
-use borrow.Author.Rules.{rules}
 use Rattle.replay.proofs.assembling.assemble_parts.Goals as goal
 
 pub returns-then-rest-behind : goal.returns-then-rest-behind

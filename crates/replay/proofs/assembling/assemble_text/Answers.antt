@@ -4,7 +4,6 @@ use Rattle.lists.proofs.Tests.{true_not_false}
 use Rattle.replay.specs.Lent.{are_clear}
 use Rattle.replay.proofs.LentLaws.{cleared_clear}
 use Rattle.replay.proofs.OperationLaws.{was_ended}
-use borrow.Author.Rules.{rules}
 use Rattle.replay.proofs.assembling.assemble_text.Goals as goal
 
 pub returns-then-are_clear : goal.returns-then-are_clear

@@ -2,7 +2,6 @@ use mathlib.Core.Path.{◌∙◌}
 use native.Mathlib.Omega.{arith}
 use Rattle.replay.proofs.WordLaws.{front_length}
 use Rattle.replay.proofs.OperationLaws.{no_numbers, many_strings, many_entries, from_numbers}
-use borrow.Author.Rules.{rules}
 use Rattle.replay.proofs.assembling.assemble_within.Goals as goal
 
 pub returns-then-input-lt12 : goal.returns-then-input-lt12

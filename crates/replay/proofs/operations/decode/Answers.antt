@@ -4,7 +4,6 @@ use lib.ListN.{length}
 use Rattle.replay.proofs.WordLaws.{front_length}
 use mathlib.Core.Path.{◌∙◌}
 use Rattle.replay.proofs.OperationLaws.{decoded_large, decoded_small}
-use borrow.Author.Rules.{rules}
 use Rattle.replay.proofs.operations.decode.Goals as goal
 
 pub returns-then-n-gt8192 : goal.returns-then-n-gt8192

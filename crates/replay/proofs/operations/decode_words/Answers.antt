@@ -3,7 +3,6 @@ use mathlib.Core.List.{List}
 use Prim.Native.Nat.{ℕ}
 use Rattle.replay.specs.Performs.{decoded_into}
 use Rattle.replay.proofs.OperationLaws.{words_decoded}
-use borrow.Author.Rules.{rules}
 use Rattle.replay.proofs.operations.decode_words.Goals as goal
 
 pub returns : goal.returns

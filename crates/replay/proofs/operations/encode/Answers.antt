@@ -1,7 +1,6 @@
 use native.Mathlib.Omega.{arith}
 use mathlib.Core.Path.{◌∙◌}
 use Rattle.replay.proofs.OperationLaws.{was_ended, encoded_cut, encoded_large, encoded_small}
-use borrow.Author.Rules.{rules}
 use Rattle.replay.proofs.operations.encode.Goals as goal
 
 pub returns-then-input-ne0 : goal.returns-then-input-ne0

@@ -1,7 +1,6 @@
 use Rattle.std.proofs.Common.{arith}
 use mathlib.Core.Path.{◌∙◌}
 use Rattle.replay.proofs.OperationLaws.{decodes, encodes, assembles, runs, does_part}
-use borrow.Author.Rules.{rules}
 use Rattle.replay.proofs.operations.perform.Goals as goal
 
 pub returns-in-1 : goal.returns-in-1

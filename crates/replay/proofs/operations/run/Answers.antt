@@ -1,7 +1,6 @@
 use native.Mathlib.Omega.{arith}
 use Rattle.lists.proofs.Writes.{same_piece}
 use Rattle.replay.proofs.OperationLaws.{ran_done, ran_short}
-use borrow.Author.Rules.{rules}
 use Rattle.replay.proofs.operations.run.Goals as goal
 
 pub returns-in-Done : goal.returns-in-Done

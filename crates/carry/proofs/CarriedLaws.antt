@@ -21,9 +21,9 @@ use Rattle.spec_carry.specs.Passes.{Carrying, fits, operand_cases, new_bits}
 use Rattle.carry.specs.Ids.{Translated}
 use Rattle.carry.specs.Places.{Mapped}
 use Rattle.carry.specs.NewBits.{on_moved, number_into, mark_into, id_into, target_mark, distance_into, address_into, is_far, Moved}
-use Rattle.carry.specs.NewBits.Moved.{has_bits, is_far_lem, is_refused}
+use Rattle.carry.specs.NewBits.Moved.{has_bits, too_far, is_refused}
 use Rattle.carry.specs.Carried.{OperandCarried}
-use Rattle.carry.specs.Carried.OperandCarried.{is_near as operand-near, is_far_lem as operand-far, is_refused as operand-refused}
+use Rattle.carry.specs.Carried.OperandCarried.{is_near as operand-near, too_far as operand-far, is_refused as operand-refused}
 use Rattle.carry.specs.declared.new_bits.NewBits.{NewBits}
 use Rattle.carry.specs.declared.new_bits.NewBits.TheVariants.{Bits, Far, Refused}
 use Rattle.carry.specs.declared.operand_carry.Carried.TheVariants as operand
@@ -85,7 +85,7 @@ module _ (x : Carrying) (i at q new c d bits : ℕ) (map ids : List ℕ) (m : Ma
       → Moved x i at q new c d bits r
   unfolding on_moved
   moved (Bits n) said b f = let h = bits_near x i at q c d bits (none_holds _ said) map ids m t new here n (b n refl) in has_bits n refl said h.0 h.1
-  moved Far said b f = is_far_lem refl said (bits_far x i at q c d bits (none_holds _ said) map ids m t new here (f refl))
+  moved Far said b f = too_far refl said (bits_far x i at q c d bits (none_holds _ said) map ids m t new here (f refl))
   moved (Refused v) said b f = is_refused v refl said
 
   -- another family
@@ -155,15 +155,15 @@ module _ (x : Carrying) (i at q new c d bits : ℕ) (map ids : List ℕ) (m : Ma
 module _ (x : Carrying) (i at q new c d bits : ℕ) (out : List ℕ) (k : ℕ) (out' : List ℕ) where
   pub carried_near : (n k' : ℕ) → Moved x i at q new c d bits (Bits n) → ByWords out k (le_bytes (width_of d) n) out' k' → OperandCarried x i at q new c d bits out k out' (operand.Done k' false)
   carried_near n k' (has_bits n' e p h b) w = let z : n ≡ n' = cc e in operand-near k' refl p h (rw (z ∙ b) at w)
-  carried_near n k' (is_far_lem e p h) w = absurd (let z : ◌≡◌ {A = ℕ} 0 1 = cc e in omega arith)
+  carried_near n k' (too_far e p h) w = absurd (let z : ◌≡◌ {A = ℕ} 0 1 = cc e in omega arith)
   carried_near n k' (is_refused f e p) w = absurd (let z : ◌≡◌ {A = ℕ} 0 1 = cc e in omega arith)
 
   pub carried_far : Moved x i at q new c d bits Far → OperandCarried x i at q new c d bits out k out' (operand.Done k true)
   carried_far (has_bits n' e p h b) = absurd (let z : ◌≡◌ {A = ℕ} 0 1 = cc e in omega arith)
-  carried_far (is_far_lem e p h) = operand-far refl p h
+  carried_far (too_far e p h) = operand-far refl p h
   carried_far (is_refused f e p) = absurd (let z : ◌≡◌ {A = ℕ} 0 1 = cc e in omega arith)
 
   pub carried_refused : (f : OperandFault) → Moved x i at q new c d bits (Refused f) → OperandCarried x i at q new c d bits out k out' (operand.Refused f)
   carried_refused f (has_bits n' e p h b) = absurd (let z : ◌≡◌ {A = ℕ} 0 1 = cc e in omega arith)
-  carried_refused f (is_far_lem e p h) = absurd (let z : ◌≡◌ {A = ℕ} 0 1 = cc e in omega arith)
+  carried_refused f (too_far e p h) = absurd (let z : ◌≡◌ {A = ℕ} 0 1 = cc e in omega arith)
   carried_refused f (is_refused f' e p) = let z : f' ≡ f = cc e in operand-refused f' (ap operand.Refused (sym z)) p

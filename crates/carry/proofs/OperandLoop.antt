@@ -34,7 +34,7 @@ use Rattle.carry.specs.Places.{Mapped}
 use Rattle.carry.specs.Ready.{ZerosBehind}
 use Rattle.carry.specs.Plans.{plan_of, old_width, IsPlan, Planning}
 use Rattle.carry.specs.Carried.{OperandCarried, first_far, OperandsCarried}
-use Rattle.carry.specs.Carried.OperandCarried.{is_near, is_far_lem, is_refused}
+use Rattle.carry.specs.Carried.OperandCarried.{is_near, too_far, is_refused}
 use Rattle.carry.specs.Carried.OperandsCarried.{all_near, some_far, some_refused}
 use Rattle.carry.specs.declared.operand_carry.Carried.{Carried}
 use Rattle.carry.specs.declared.operand_carry.Carried.TheVariants.{Done, Refused}
@@ -126,7 +126,7 @@ module _ {x : Carrying} {i at new : ℕ} {row row' s out₀ : List ℕ} {k : ℕ
         let v : b ≡ false = cc e in
         let bs = le_bytes (width_of d) (new_bits x at new c d bits) in
         wrote_all (rw (z, v)) (seen ++ bs) (put and_words (rw y at w)) (bytes ∙ sym (append_assoc seen bs _)) (λ more rest. near more rest ∙ rw h)
-    written_more f u b out' n' (wrote_all z seen put bytes near) (is_far_lem e g h) =
+    written_more f u b out' n' (wrote_all z seen put bytes near) (too_far e g h) =
         let v : b ≡ true = cc e in
         met_far f (rw (z, v) u) (λ more rest. near more rest ∙ (rw h (ap (λ (m : ℕ). refused_with (BadOperand Distance i m)) u)))
     written_more f u b out' n' (wrote_all z seen put bytes near) (is_refused o e g) = absurd (let z : ◌≡◌ {A = ℕ} 0 1 = cc e in omega arith)
@@ -142,18 +142,18 @@ module _ {x : Carrying} {i at new : ℕ} {row row' s out₀ : List ℕ} {k : ℕ
       where
         passes : OperandCarried x i at q new c d bits out n out' (Done n' b) → (rest : Outcome) → unless_case (operand_cases x i at q c d bits) rest ≡ rest
         passes (is_near k' e g h w) = g
-        passes (is_far_lem e g h) = g
+        passes (too_far e g h) = g
         passes (is_refused v e g) = absurd (let z : ◌≡◌ {A = ℕ} 0 1 = cc e in omega arith)
 
         next_most : OperandCarried x i at q new c d bits out n out' (Done n' b) → n' ≤ n + 8
         next_most (is_near k' e g h w) = let y : k' ≡ n' = cc e in omega (arith, w.next, y, length_le_bytes (width_of d) (new_bits x at new c d bits), width_most d)
-        next_most (is_far_lem e g h) = let y : n ≡ n' = cc e in omega arith
+        next_most (too_far e g h) = let y : n ≡ n' = cc e in omega arith
         next_most (is_refused v e g) = absurd (let z : ◌≡◌ {A = ℕ} 0 1 = cc e in omega arith)
 
     pub one_refused : (v : OperandFault) (out' : List ℕ) → OperandCarried x i at q new c d bits out n out' (Refused v)
         → OperandsCarried x i at new row row' (pairs row s (at + 1)) out₀ k out' (answer.Refused v q)
     one_refused v out' (is_near k' e g h w) = absurd (let z : ◌≡◌ {A = ℕ} 0 1 = cc e in omega arith)
-    one_refused v out' (is_far_lem e g h) = absurd (let z : ◌≡◌ {A = ℕ} 0 1 = cc e in omega arith)
+    one_refused v out' (too_far e g h) = absurd (let z : ◌≡◌ {A = ℕ} 0 1 = cc e in omega arith)
     one_refused v out' (is_refused f e g) =
         let z : f ≡ v = cc e in
         some_refused v q refl (λ more rest. operand_first more rest ∙ (g _ ∙ ap (λ (y : OperandFault). refused_with (BadOperand y i q)) z))

@@ -27,7 +27,7 @@ use Rattle.carry.specs.declared.instructions.Far.{Far}
 pub data OperandCarried (x : Carrying) (i at q new c d bits : ℕ) (block : List ℕ) (k : ℕ) (block' : List ℕ) (r : Carried) : Type 0 where
   is_near : (k' : ℕ) → r ≡ operand.Done k' false → ((rest : Outcome) → unless_case (operand_cases x i at q c d bits) rest ≡ rest) → is_far x i at c d bits ≡ false
       → ByWords block k (le_bytes (width_of d) (new_bits x at new c d bits)) block' k' → OperandCarried x i at q new c d bits block k block' r
-  is_far_lem : r ≡ operand.Done k true → ((rest : Outcome) → unless_case (operand_cases x i at q c d bits) rest ≡ rest) → is_far x i at c d bits ≡ true
+  too_far : r ≡ operand.Done k true → ((rest : Outcome) → unless_case (operand_cases x i at q c d bits) rest ≡ rest) → is_far x i at c d bits ≡ true
       → OperandCarried x i at q new c d bits block k block' r
   is_refused : (f : OperandFault) → r ≡ operand.Refused f → ((rest : Outcome) → unless_case (operand_cases x i at q c d bits) rest ≡ refused_with (BadOperand f i q))
       → OperandCarried x i at q new c d bits block k block' r

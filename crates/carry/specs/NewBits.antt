@@ -58,6 +58,6 @@ is_far x i at c d bits = both (eqb d addr8) (not (near (get_or x.moved i 0) (new
 pub data Moved (x : Carrying) (i at q new c d bits : ℕ) (r : NewBits) : Type 0 where
   has_bits : (n : ℕ) → r ≡ Bits n → ((rest : Outcome) → unless_case (operand_cases x i at q c d bits) rest ≡ rest) → is_far x i at c d bits ≡ false
       → n ≡ new_bits x at new c d bits → Moved x i at q new c d bits r
-  is_far_lem : r ≡ Far → ((rest : Outcome) → unless_case (operand_cases x i at q c d bits) rest ≡ rest) → is_far x i at c d bits ≡ true → Moved x i at q new c d bits r
+  too_far : r ≡ Far → ((rest : Outcome) → unless_case (operand_cases x i at q c d bits) rest ≡ rest) → is_far x i at c d bits ≡ true → Moved x i at q new c d bits r
   is_refused : (f : OperandFault) → r ≡ Refused f → ((rest : Outcome) → unless_case (operand_cases x i at q c d bits) rest ≡ refused_with (BadOperand f i q))
       → Moved x i at q new c d bits r

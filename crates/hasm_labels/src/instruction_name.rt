@@ -25,7 +25,7 @@ pub(crate) fn read_name(
 ) -> Named
     requires names_indexed { NamesIndexed sheet.now ops.now names.now }
     requires s_len_bound { length s.now ≤ line_limit }
-    ensures { (bytes ends : List ℕ) → NameRead (record { sheet = sheet.entry.now; types = types.now; infos = ops.now; bytes = bytes; ends = ends }) n s.now result }
+    ensures { (bytes ends : List ℕ) → NameRead (record { sheet = sheet.now; types = types.now; infos = ops.now; bytes = bytes; ends = ends }) n s.now result }
 {
     let k = hasm_read::white_space::skip(s, 0, false);
     let found = sheet::name_index::find_indexed(sheet, ops, names, &s[0..k]);

@@ -45,7 +45,7 @@ fn read_again(
     requires names_indexed { NamesIndexed sheet.now ops.now names.now }
     requires text_len_bound { (length text.now ≤ text_limit) × ShortLines text.now }
     requires by_index { (bytes ends : List ℕ) (rest : Assembled) → unless_bad_name (record { sheet = sheet.now; types = types.now; infos = ops.now; bytes = bytes; ends = ends }) (codes_of (record { sheet = sheet.now; types = types.now; infos = ops.now; bytes = bytes; ends = ends }) text.now) rest ≡ rest }
-    ensures { (bytes ends : List ℕ) → result ≡ found_of (label_offset (labels_from (record { sheet = sheet.entry.now; types = types.now; infos = ops.now; bytes = bytes; ends = ends }) 0 (codes_of (record { sheet = sheet.entry.now; types = types.now; infos = ops.now; bytes = bytes; ends = ends }) text.now)) t.now) }
+    ensures { (bytes ends : List ℕ) → result ≡ found_of (label_offset (labels_from (record { sheet = sheet.now; types = types.now; infos = ops.now; bytes = bytes; ends = ends }) 0 (codes_of (record { sheet = sheet.now; types = types.now; infos = ops.now; bytes = bytes; ends = ends }) text.now)) t.now) }
 {
     let mut none: [Slot; 0] = [];
     let mut no_index: [u64; 0] = [];
@@ -85,7 +85,7 @@ pub fn label_offset(
     requires names_indexed { NamesIndexed sheet.now ops.now names.now }
     requires text_len_bound { (length text.now ≤ text_limit) × ShortLines text.now }
     requires by_index { (bytes ends : List ℕ) → Labelled (record { sheet = sheet.now; types = types.now; infos = ops.now; bytes = bytes; ends = ends }) text.now labels.now index.now known }
-    ensures { (bytes ends : List ℕ) → result ≡ found_of (label_offset (labels_from (record { sheet = sheet.entry.now; types = types.now; infos = ops.now; bytes = bytes; ends = ends }) 0 (codes_of (record { sheet = sheet.entry.now; types = types.now; infos = ops.now; bytes = bytes; ends = ends }) text.now)) t.now) }
+    ensures { (bytes ends : List ℕ) → result ≡ found_of (label_offset (labels_from (record { sheet = sheet.now; types = types.now; infos = ops.now; bytes = bytes; ends = ends }) 0 (codes_of (record { sheet = sheet.now; types = types.now; infos = ops.now; bytes = bytes; ends = ends }) text.now)) t.now) }
 {
     if slices::compare::same_bytes(t, b"L") {
         return bare_offset(known);

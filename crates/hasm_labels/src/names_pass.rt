@@ -45,7 +45,7 @@ pub fn read_names(
     requires names_indexed { NamesIndexed sheet.now ops.now names.now }
     requires text_len_bound { (length text.now ≤ text_limit) × ShortLines text.now }
     requires buckets { 0 < m → Buckets m index.old }
-    ensures { (bytes ends : List ℕ) → NamesRead (record { sheet = sheet.entry.now; types = types.now; infos = ops.now; bytes = bytes; ends = ends }) text.now t.now labels.old labels.new m index.new result }
+    ensures { (bytes ends : List ℕ) → NamesRead (record { sheet = sheet.now; types = types.now; infos = ops.now; bytes = bytes; ends = ends }) text.now t.now labels.old labels.new m index.new result }
 {
     let mut indexed = crate::own_labels::start_index(index, m);
     let mut p = crate::hold_label::at_start();

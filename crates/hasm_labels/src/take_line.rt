@@ -33,7 +33,7 @@ fn take_code(
 ) -> Step
     requires names_indexed { NamesIndexed sheet.now ops.now names.now }
     requires s_len_bound { (length s.now ≤ line_limit) × Small p }
-    ensures { (bytes ends : List ℕ) → CodeTaken (record { sheet = sheet.entry.now; types = types.now; infos = ops.now; bytes = bytes; ends = ends }) n s.now text.now t.now labels.old p labels.new result }
+    ensures { (bytes ends : List ℕ) → CodeTaken (record { sheet = sheet.now; types = types.now; infos = ops.now; bytes = bytes; ends = ends }) n s.now text.now t.now labels.old p labels.new result }
 {
     let named = crate::instruction_name::read_name(s, n, sheet, types, ops, names);
     match named {
@@ -70,7 +70,7 @@ pub(crate) fn take_line(
 ) -> Step
     requires names_indexed { NamesIndexed sheet.now ops.now names.now }
     requires line_at { LineAt text.now at end p }
-    ensures { (bytes ends : List ℕ) (slots : List (List ℕ)) (g : Going (record { sheet = sheet.entry.now; types = types.now; infos = ops.now; bytes = bytes; ends = ends }) text.now t.now slots at n p labels.old) → Turned (record { sheet = sheet.entry.now; types = types.now; infos = ops.now; bytes = bytes; ends = ends }) text.now t.now slots p g.taken (end + 1) n result labels.new }
+    ensures { (bytes ends : List ℕ) (slots : List (List ℕ)) (g : Going (record { sheet = sheet.now; types = types.now; infos = ops.now; bytes = bytes; ends = ends }) text.now t.now slots at n p labels.old) → Turned (record { sheet = sheet.now; types = types.now; infos = ops.now; bytes = bytes; ends = ends }) text.now t.now slots p g.taken (end + 1) n result labels.new }
 {
     let line = hasm_read::lines::line_of(text, at, end);
     let statement = hasm_read::statement::read_statement(line, sheet, ops, names);

@@ -22,7 +22,7 @@ pub fn index_text(
 ) -> bool
     requires names_indexed { NamesIndexed sheet.now ops.now names.now × Buckets m index.old }
     requires text_len_bound { (length text.now ≤ text_limit) × ShortLines text.now }
-    ensures { result ≡ true → (bytes ends : List ℕ) (slots : List (List ℕ)) → LabelsIndexed true text.now slots index.new m (long_of (labels_from (record { sheet = sheet.entry.now; types = types.now; infos = ops.now; bytes = bytes; ends = ends }) 0 (codes_of (record { sheet = sheet.entry.now; types = types.now; infos = ops.now; bytes = bytes; ends = ends }) text.now))) }
+    ensures { result ≡ true → (bytes ends : List ℕ) (slots : List (List ℕ)) → LabelsIndexed true text.now slots index.new m (long_of (labels_from (record { sheet = sheet.now; types = types.now; infos = ops.now; bytes = bytes; ends = ends }) 0 (codes_of (record { sheet = sheet.now; types = types.now; infos = ops.now; bytes = bytes; ends = ends }) text.now))) }
 {
     let mut none: [Slot; 0] = [];
     let read = crate::names_pass::read_names(

@@ -60,7 +60,7 @@ fn is_letter_at(s: &[u8], i: usize) -> bool
 // Where the instruction starts: behind an offset, or 0. The search for the name comes last, as it costs most.
 pub(crate) fn behind_offset(s: &[u8], sheet: &[u8], ops: &[[usize; 4]; 256], names: &[u32]) -> usize
     requires { NamesIndexed sheet.now ops.now names.now }
-    ensures { ((types : List (List ℕ)) (bytes ends : List ℕ) → behind_offset (record { sheet = sheet.entry.now; types = types; infos = ops.now; bytes = bytes; ends = ends }) s.now ≡ drop result s.now) × (result ≤ length s.now) }
+    ensures { ((types : List (List ℕ)) (bytes ends : List ℕ) → behind_offset (record { sheet = sheet.now; types = types; infos = ops.now; bytes = bytes; ends = ends }) s.now ≡ drop result s.now) × (result ≤ length s.now) }
 {
     let m = prefix_length(s);
     let k = hex_end(s, m);

@@ -23,7 +23,7 @@ pub fn read_statement(
 ) -> Statement
     requires names_indexed { NamesIndexed sheet.now ops.now names.now }
     requires line_len_bound { length line.now ≤ line_limit }
-    ensures { (types : List (List ℕ)) (bytes ends : List ℕ) → StatementIn (statement_of (record { sheet = sheet.entry.now; types = types; infos = ops.now; bytes = bytes; ends = ends }) line.now) line.now result }
+    ensures { (types : List (List ℕ)) (bytes ends : List ℕ) → StatementIn (statement_of (record { sheet = sheet.now; types = types; infos = ops.now; bytes = bytes; ends = ends }) line.now) line.now result }
 {
     // Most labels stand alone on their line: this saves the search for a comment and for white space.
     if crate::line_shape::is_label(line) {

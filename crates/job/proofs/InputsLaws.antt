@@ -47,7 +47,7 @@ module _ (s : List ℕ) (at line : ℕ) (types infos : List (List ℕ)) (bytes e
         whole (record { opcodes = a.of.opcodes; bytes = w.strings; ends = w.string_ends }) m.end (line + 2 + length a.of.opcodes + 1 + length w.string_ends)
         (inputs_whole s at line a.of n.end w.strings w.string_ends m.end a.is_sheet w.is_table)
         (rw (k, a.last, w.number, w.size))
-        record { type_rows_lem = g ∙ types_of _ a.of n.end a.is_sheet; info_rows_lem = h ∙ infos_of _ a.of n.end a.is_sheet; strings = w.opens; string_ends = w.opens_ends }
+        record { type_rows_are = g ∙ types_of _ a.of n.end a.is_sheet; info_rows_are = h ∙ infos_of _ a.of n.end a.is_sheet; strings = w.opens; string_ends = w.opens_ends }
 
     pub strings_off : {k : ℕ} → t ≡ tables.FaultAfter k → InputsIn (inputs_at s at line) types infos bytes ends (BadLine (line + 2 + n.count + k))
     strings_off {k} q =

@@ -80,7 +80,7 @@ module _ (job : List ℕ) (start line : ℕ) {types ops : List (List ℕ)} {byte
   pub inputs_zeros : (op : ℕ) → ZerosBehind (get_or types op [])
   inputs_zeros =
       let p = inputs_parts job start line w.of n.end n.line w.is_inputs in
-      rw (w.held.type_rows_lem, p.opcodes_are) (read_zeros job start p.of p.place p.is_sheet)
+      rw (w.held.type_rows_are, p.opcodes_are) (read_zeros job start p.of p.place p.is_sheet)
 
   -- the arrays' fronts are the inputs' strings
   pub inputs_held : (texts tableEnds : List ℕ) → texts ≡ take n.size bytes → tableEnds ≡ take n.count ends → n.size ≤ length bytes → n.count ≤ length ends

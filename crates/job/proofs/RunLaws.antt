@@ -42,7 +42,7 @@ module _ (job : List ℕ) (start line : ℕ) {types ops : List (List ℕ)} {byte
       → Prints (printed_job job whole) before after r
   inputs_prints x whole e texts tableEnds p q l n before after r k =
       let held = inputs_held job start line w h texts tableEnds p q l n in
-      rw e (rw held at (k w.of.opcodes w.held.type_rows_lem w.held.info_rows_lem w.largest_is))
+      rw e (rw held at (k w.of.opcodes w.held.type_rows_are w.held.info_rows_are w.largest_is))
 
 module _ (job : List ℕ) (start : ℕ) {types ops : List (List ℕ)} {bytes ends : List ℕ} {read : InputsRead} (w : InputsWas (inputs_at job start 2) types ops bytes ends read) (h : length job ≤ 65536) where
   module _ (work : Work) (texts tableEnds : List ℕ) (p : texts ≡ take read.size bytes) (q : tableEnds ≡ take read.count ends) (l : read.size ≤ length bytes) (n : read.count ≤ length ends) (before after : List ℕ) (r : ℕ) where

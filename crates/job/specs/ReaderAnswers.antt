@@ -36,8 +36,8 @@ read_work works.Carry s at = read_carry s at
 
 -- what the lent arrays hold of the inputs: both tables by opcode, the strings' bytes and their ends
 pub record Holds (e : JobInputs) (types infos : List (List ℕ)) (bytes ends : List ℕ) : Type 0 where
-  pub type_rows_lem : types ≡ type_rows e.opcodes
-  pub info_rows_lem : infos ≡ info_rows e.opcodes
+  pub type_rows_are : types ≡ type_rows e.opcodes
+  pub info_rows_are : infos ≡ info_rows e.opcodes
   pub strings : Opens bytes e.bytes
   pub string_ends : Opens ends e.ends
 

@@ -49,7 +49,7 @@ pub(crate) fn put_instruction(
     at: usize,
 ) -> usize
     requires { (at + length_of (row_at types.now s.now at) ≤ length s.now) × (length s.now ≤ body_limit) }
-    ensures { ByWords out.old k (instruction_text options.show_offsets options.resolve_strings (record { sheet = sheet.entry.now; types = types.now; infos = ops.now; bytes = bytes.now; ends = ends.now }) (record_of (row_at types.now s.now at) s.now at)) out.new result }
+    ensures { ByWords out.old k (instruction_text options.show_offsets options.resolve_strings (record { sheet = sheet.now; types = types.now; infos = ops.now; bytes = bytes.now; ends = ends.now }) (record_of (row_at types.now s.now at) s.now at)) out.new result }
 {
     let op = s[at] as usize;
     let info = ops[op];

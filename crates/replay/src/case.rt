@@ -1,5 +1,5 @@
 // Reading a case from standard input. A read that fails ends the input, and the source keeps the failure for `main`.
-ghost use Rattle.std.specs.Prelude.{◌≡◌, ◌<◌, ◌≤◌, length};
+ghost use Rattle.std.specs.Prelude.{◌≡◌, ◌<◌, ◌≤◌, length, None, Err, IsOk, IsSome, MatchOption};
 ghost use Rattle.replay.specs.Cases.{number_at, head_of, Reads, Fronted, PartsRead};
 
 use numbers::little_endian::read_le;
@@ -15,7 +15,9 @@ pub struct Source {
 }
 
 impl Source {
-    pub fn new(stdin: Stdin) -> Self {
+    pub fn new(stdin: Stdin) -> Self
+        ensures { result.failure ≡ None }
+    {
         Source {
             stdin,
             failure: None,
@@ -24,7 +26,8 @@ impl Source {
 
     // Reads to the front of s until it is full or there is no further byte, and answers how many bytes are there.
     fn fill(&mut self, s: &mut [u8]) -> usize
-        ensures { result ≤ length s.new }
+        ensures within { result ≤ length s.new }
+        ensures ended { IsSome self.old.failure → result ≡ 0 }
     {
         if self.failure.is_some() {
             return 0;
@@ -39,7 +42,9 @@ impl Source {
     }
 
     // Whether all reads succeeded: the failure, if one failed.
-    pub fn finish(self) -> io::Result<()> {
+    pub fn finish(self) -> io::Result<()>
+        ensures { MatchOption self.failure (IsOk result) (λ e. result ≡ Err e) }
+    {
         match self.failure {
             None => Ok(()),
             Some(e) => Err(e),

@@ -1,35 +1,11 @@
-// Lent words and label entries, cleared as a refusal leaves them.
-ghost use Rattle.std.specs.Prelude.{◌≡◌, [], ◌∷◌, length, replicate};
+// Lent space, cleared as a refusal leaves it.
+ghost use Rattle.std.specs.Prelude.{◌≡◌, length, replicate};
 
-// Sets every word to 0.
-pub fn clear_words(out: &mut [u64])
-    ensures { out.new ≡ replicate (length out.old) 0 }
+// Sets every element to `zero`. (`fill` asks also that a clone can't fail, which `T: Copy` doesn't say.)
+pub fn clear<T: Copy>(out: &mut [T], zero: T)
+    ensures { out.new ≡ replicate (length out.old) zero }
 {
-    let mut i: usize = 0;
-    while i < out.len() {
-        out[i] = 0;
-        i += 1;
-    }
-}
-
-// Sets every label entry of a listing to 0.
-pub fn clear_entries(entries: &mut [u32])
-    ensures { entries.new ≡ replicate (length entries.old) 0 }
-{
-    let mut i: usize = 0;
-    while i < entries.len() {
-        entries[i] = 0;
-        i += 1;
-    }
-}
-
-// Sets every label entry of an assembled text, three words, to 0.
-pub fn clear_labels(labels: &mut [[u32; 3]])
-    ensures { labels.new ≡ replicate (length labels.old) (0 ∷ 0 ∷ 0 ∷ []) }
-{
-    let mut i: usize = 0;
-    while i < labels.len() {
-        labels[i] = [0, 0, 0];
-        i += 1;
+    for x in out.iter_mut() {
+        *x = zero;
     }
 }

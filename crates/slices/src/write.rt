@@ -1,6 +1,6 @@
 // The counting writer: it writes what fits and answers the next position whether or not it fits, so that the space
 // needed is known exactly when everything has been written once.
-ghost use Rattle.std.specs.Prelude.{◌≡◌, [], ◌∷◌, ◌+◌, ◌≤◌, length, replicate};
+ghost use Rattle.std.specs.Prelude.{[], ◌∷◌, ◌+◌, ◌≤◌, length};
 ghost use Rattle.lists.specs.Write.{Put};
 
 // Writes one byte. The count stops at the largest usize.
@@ -51,15 +51,4 @@ pub fn put_bytes(out: &mut [u8], at: usize, s: &[u8]) -> usize
         return count_bytes(out, at, s);
     }
     copy_bytes(out, at, s)
-}
-
-// Sets every byte to 0, as a refusal leaves a lent buffer.
-pub fn clear(out: &mut [u8])
-    ensures { out.new ≡ replicate (length out.old) 0 }
-{
-    let mut i: usize = 0;
-    while i < out.len() {
-        out[i] = 0;
-        i += 1;
-    }
 }

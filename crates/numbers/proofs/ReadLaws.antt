@@ -1,10 +1,12 @@
 -- The ways through the reading of a double, one law for each. Assumes nothing.
-use Rattle.std.proofs.Common.{◌≡◌, ℕ, ◌+◌, ◌-◌, ◌^◌, ◌<◌, ◌≤◌, true, false, List, [], ◌∷◌, length, get_or, drop, sym, refl, ◌∙◌, arith, length-drop, eq-eqb, ne_eqb, le-leb}
+use Rattle.std.proofs.Common.{◌≡◌, ℕ, ◌+◌, ◌-◌, ◌^◌, ◌<◌, ◌≤◌, true, false, List, [], ◌∷◌, Some, None, length, get_or, drop, sym, refl, ap, ◌∙◌, arith, length-drop, eq-eqb, ne_eqb, le-leb}
 use borrow.Author.Tests.{lt-leb}
 use Rattle.lists.specs.Scan.{same, opens}
 use Rattle.spec_numbers.specs.Parse.{Parsed, unsigned_value}
 use Rattle.spec_numbers.specs.Parse.Parsed.{is, bad}
-use Rattle.spec_numbers.specs.Double.{negative, infinite, infinity_text, hex_mark, with_sign, whole_digits, read_whole, read_hex16, read_double}
+use Rattle.spec_numbers.specs.Double.{negative, infinite, bits_of_whole, infinity_text, hex_mark, with_sign, whole_digits, read_whole, read_hex16, read_double}
+use Rattle.numbers.specs.Answers.{number_of}
+use Rattle.numbers.proofs.AnswerLaws.{number_is, number_bad}
 
 -- digits: too many, none that are a number, and a number
 module _ (sign : ℕ) (s : List ℕ) where
@@ -12,9 +14,18 @@ module _ (sign : ℕ) (s : List ℕ) where
   unfolding with_sign whole_digits
   digits_many h = rw (lt-leb _ _ h)
 
-  pub digits_are : (p : Parsed) → length s ≤ 16 → unsigned_value 10 (2 ^ 53) s ≡ p → with_sign sign (whole_digits s) ≡ with_sign sign p
-  unfolding whole_digits
-  digits_are p h e = rw (le-leb _ _ h, e)
+  module _ (few : length s ≤ 16) where
+    digits_are : (p : Parsed) → unsigned_value 10 (2 ^ 53) s ≡ p → with_sign sign (whole_digits s) ≡ with_sign sign p
+    unfolding whole_digits
+    digits_are p e = rw (le-leb _ _ few, e)
+
+    pub digits_none : number_of (unsigned_value 10 (2 ^ 53) s) ≡ None → number_of (with_sign sign (whole_digits s)) ≡ None
+    unfolding with_sign
+    digits_none e = ap number_of (digits_are bad (number_bad _ e))
+
+    pub digits_some : (n : ℕ) → number_of (unsigned_value 10 (2 ^ 53) s) ≡ Some n → number_of (with_sign sign (whole_digits s)) ≡ Some (sign + bits_of_whole n)
+    unfolding with_sign
+    digits_some n e = ap number_of (digits_are (is n) (number_is _ n e))
 
 -- a sign and digits
 module _ (s : List ℕ) where

@@ -8,13 +8,6 @@ ghost use Rattle.numbers.specs.Room.{has_room};
 
 use slices::compare::is_within;
 
-// A number that was read, or that the text is none.
-#[derive(Clone, Copy)]
-pub enum Number {
-    Is(u64),
-    Bad,
-}
-
 // What a byte is worth as a digit; 16 for a byte that is no digit.
 pub fn digit_value(b: u8) -> u8
     ensures { result ≡ digit_value b }
@@ -46,7 +39,7 @@ fn has_room(front: u64, last: u64, n: u64, d: u64) -> bool
 
 // The number of the digits from `from` on. The next number is compared with `most` before it is made, so that `most` may
 // be the largest u64; `most` is divided once for all digits.
-fn parse_digits(s: &[u8], from: usize, base: u64, most: u64) -> Number
+fn parse_digits(s: &[u8], from: usize, base: u64, most: u64) -> Option<u64>
     requires { (from ≤ length s.now) × (0 < base) }
     ensures { result ≡ number_of (digits_value base most 0 (drop from s.now)) }
 {
@@ -57,35 +50,35 @@ fn parse_digits(s: &[u8], from: usize, base: u64, most: u64) -> Number
     while i < s.len() {
         let d = digit_value(s[i]) as u64;
         if base <= d {
-            return Number::Bad;
+            return None;
         }
         if !has_room(front, last, acc, d) {
-            return Number::Bad;
+            return None;
         }
         acc = acc * base + d;
         i += 1;
     }
-    Number::Is(acc)
+    Some(acc)
 }
 
 // One digit or more from `from` on.
-pub fn unsigned_value(s: &[u8], from: usize, base: u64, most: u64) -> Number
+pub fn unsigned_value(s: &[u8], from: usize, base: u64, most: u64) -> Option<u64>
     requires { (from ≤ length s.now) × (0 < base) }
     ensures { result ≡ number_of (unsigned_value base most (drop from s.now)) }
 {
     if s.len() <= from {
-        return Number::Bad;
+        return None;
     }
     parse_digits(s, from, base, most)
 }
 
 // A u32 with a `+` that may stand in front.
-fn parse_u32_in(s: &[u8], base: u64) -> Number
+fn parse_u32_in(s: &[u8], base: u64) -> Option<u64>
     requires { 0 < base }
     ensures { result ≡ number_of (parse_u32_in base s.now) }
 {
     if s.len() == 0 {
-        return Number::Bad;
+        return None;
     }
     if s[0] == 43 {
         return unsigned_value(s, 1, base, 0xffff_ffff);
@@ -94,14 +87,14 @@ fn parse_u32_in(s: &[u8], base: u64) -> Number
 }
 
 // `str::parse::<u32>`.
-pub fn parse_u32(s: &[u8]) -> Number
+pub fn parse_u32(s: &[u8]) -> Option<u64>
     ensures { result ≡ number_of (parse_u32 s.now) }
 {
     parse_u32_in(s, 10)
 }
 
 // `u32::from_str_radix(_, 16)`.
-pub fn parse_hex(s: &[u8]) -> Number
+pub fn parse_hex(s: &[u8]) -> Option<u64>
     ensures { result ≡ number_of (parse_hex s.now) }
 {
     parse_u32_in(s, 16)
@@ -119,23 +112,20 @@ fn minus_bits(n: u64) -> u64
 }
 
 // The digits behind a `-`, of which the largest is 2^31.
-fn parse_minus(s: &[u8]) -> Number
+fn parse_minus(s: &[u8]) -> Option<u64>
     requires { 1 ≤ length s.now }
     ensures { result ≡ number_of (negated (unsigned_value 10 (2 ^ 31) (drop 1 s.now))) }
 {
-    let m = unsigned_value(s, 1, 10, 0x8000_0000);
-    let Number::Is(n) = m else {
-        return Number::Bad;
-    };
-    Number::Is(minus_bits(n))
+    let n = unsigned_value(s, 1, 10, 0x8000_0000)?;
+    Some(minus_bits(n))
 }
 
 // `str::parse::<i32>`, answered by the 32 bits of the number.
-pub fn parse_i32(s: &[u8]) -> Number
+pub fn parse_i32(s: &[u8]) -> Option<u64>
     ensures { result ≡ number_of (parse_i32 s.now) }
 {
     if s.len() == 0 {
-        return Number::Bad;
+        return None;
     }
     let b = s[0];
     if b == 45 {

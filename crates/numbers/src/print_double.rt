@@ -4,7 +4,6 @@ ghost use Rattle.lists.specs.Write.{Put};
 ghost use Rattle.spec_numbers.specs.Double.{print_double, sign_text, infinity_text, hex_mark};
 ghost use Rattle.spec_numbers.specs.Print.{hex_upper16};
 
-use crate::parse::Number;
 use crate::print_decimal::put_decimal;
 use crate::print_hex::put_hex_upper16;
 use crate::whole::whole_of;
@@ -41,17 +40,12 @@ pub fn put_double(out: &mut [u8], at: usize, bits: u64) -> usize
     ensures { Put out.old at (print_double bits) out.new result }
 {
     let sign = bits / 0x8000_0000_0000_0000;
-    let whole = whole_of(bits);
-    match whole {
-        Number::Is(n) => {
-            let k = put_sign(out, at, sign);
-            put_decimal(out, k, n)
-        }
-        Number::Bad => {
-            if bits % 0x8000_0000_0000_0000 == 0x7ff0_0000_0000_0000 {
-                return put_infinity(out, at, sign);
-            }
-            put_bits(out, at, bits)
-        }
+    if let Some(n) = whole_of(bits) {
+        let k = put_sign(out, at, sign);
+        return put_decimal(out, k, n);
     }
+    if bits % 0x8000_0000_0000_0000 == 0x7ff0_0000_0000_0000 {
+        return put_infinity(out, at, sign);
+    }
+    put_bits(out, at, bits)
 }

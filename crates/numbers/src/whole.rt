@@ -3,38 +3,36 @@ ghost use Rattle.std.specs.Prelude.{◌≡◌, ◌^◌, ◌≤◌};
 ghost use Rattle.numbers.specs.Answers.{number_of};
 ghost use Rattle.spec_numbers.specs.Double.{whole_of, bits_of_whole};
 
-use crate::parse::Number;
-
 // A double's size, where that is a whole number up to 2^53.
-pub fn whole_of(bits: u64) -> Number
+pub fn whole_of(bits: u64) -> Option<u64>
     ensures { result ≡ number_of (whole_of bits) }
 {
     let e = bits / 0x10_0000_0000_0000 % 0x800;
     let m = bits % 0x10_0000_0000_0000;
     if e == 0 {
         if m == 0 {
-            return Number::Is(0);
+            return Some(0);
         }
-        return Number::Bad;
+        return None;
     }
     if e == 1076 {
         if m == 0 {
-            return Number::Is(0x20_0000_0000_0000);
+            return Some(0x20_0000_0000_0000);
         }
-        return Number::Bad;
+        return None;
     }
     if e < 1023 {
-        return Number::Bad;
+        return None;
     }
     if 1075 < e {
-        return Number::Bad;
+        return None;
     }
     let significand = 0x10_0000_0000_0000 + m;
     let k = (1075 - e) as u32;
     if u64::trailing_zeros(significand) < k {
-        return Number::Bad;
+        return None;
     }
-    Number::Is(significand >> k)
+    Some(significand >> k)
 }
 
 // The bits of the double n.

@@ -1,5 +1,5 @@
 -- An answer's numbers, field by field and case by case. Assumes nothing.
-use mathlib.Core.Path.{◌≡◌, refl, ap, sym, ◌∙◌}
+use mathlib.Core.Path.{◌≡◌, refl, ap}
 use Prim.Native.Nat.{◌<◌}
 use native.Mathlib.Omega.{arith}
 use Rattle.answers.specs.Report.{Report}
@@ -14,10 +14,6 @@ use Rattle.answers.specs.declared.refusal.Refusal.TheVariants.{Malformed, BadByt
 -- the report that the numbers of a report are
 pub same_report : {answer : Report} {n : Numbers} → n ≡ numbers_of answer → report_in n ≡ answer
 same_report q = ap report_in q
-
--- numbers of a case, for what was matched with it
-pub of_case : {x y : Refusal} {n : Numbers} → n ≡ numbers_of (refusal_report y) → x ≡ y → n ≡ numbers_of (refusal_report x)
-of_case e q = e ∙ sym (ap (λ (z : Refusal). numbers_of (refusal_report z)) q)
 
 -- no refusal has the number of a result
 fault_some : (f : OperandFault) → 0 < fault_number f

@@ -3,3 +3,4 @@ pub mod Refusals
 pub mod Outcome
 pub mod Numbers
 pub mod Space
+pub mod Answers

@@ -1,12 +1,11 @@
 -- The space that an operation needs, as figures (document 02 (b), "Space before work"). Assumes nothing.
-use Rattle.std.specs.Prelude.{◌≡◌, List, [], ◌∷◌, ℕ, suc, ◌*◌, ◌/◌, ◌<◌, ◌≤◌, get_or}
+use Rattle.std.specs.Prelude.{◌≡◌, List, [], ◌∷◌, ℕ, suc, ◌*◌, ◌/◌, ◌<◌, ◌≤◌, get_or, Result, Ok, Err}
 use Rattle.answers.specs.Report.{Report, shortage}
 use Rattle.answers.specs.Refusals.{refusal_report}
 use Rattle.answers.specs.Outcome.{Outcome, Space, space_of, report, Ended}
 use Rattle.answers.specs.Outcome.Outcome.{result, refused_with}
 use Rattle.answers.specs.declared.space.Need.{Need}
-use Rattle.answers.specs.declared.space.SpaceAnswer.{SpaceAnswer}
-use Rattle.answers.specs.declared.space.SpaceAnswer.TheVariants.{Needs, Refused}
+use Rattle.answers.specs.declared.refusal.Refusal.{Refusal}
 use Rattle.answers.specs.declared.space.SpaceNumbers.{SpaceNumbers}
 
 -- what an operation's output is counted in: bytes, or records of 20 words
@@ -47,9 +46,9 @@ space_report u (result r) = needs (need_in u (space_of (result r)))
 space_report u (refused_with x) = refuses (refusal_report x)
 
 -- the report of each answer about space, and its numbers, each in the field of its name
-unfoldable pub space_report_of : SpaceAnswer → SpaceReport
-space_report_of (Needs n) = needs n
-space_report_of (Refused x) = refuses (refusal_report x)
+unfoldable pub space_report_of : Result Need Refusal → SpaceReport
+space_report_of (Ok n) = needs n
+space_report_of (Err x) = refuses (refusal_report x)
 
 abbrev pub space_numbers_of : SpaceReport → SpaceNumbers
 space_numbers_of r = record {

@@ -2,7 +2,7 @@
 // place and operand. 19 is no case: the lent space decides it after an operation's own refusals.
 
 // What is wrong with one operand.
-#[derive(Clone, Copy)]
+#[derive(Clone, Copy, PartialEq, Eq, Debug)]
 pub enum OperandFault {
     Register,
     Address,
@@ -16,7 +16,7 @@ pub enum OperandFault {
 }
 
 // Each case with its place: a line, an offset or an index; an operand's fault with the operand's number too.
-#[derive(Clone, Copy)]
+#[derive(Clone, Copy, PartialEq, Eq, Debug)]
 pub enum Refusal {
     Malformed(usize),
     BadByte(usize),

@@ -9,13 +9,13 @@ use Rattle.lists.specs.Scan.{same}
 use Rattle.lists.proofs.Tests.{by_test}
 use Rattle.lists.proofs.Scans.{same_eq}
 use Rattle.slices.specs.Answers.{found_of}
-use Rattle.slices.specs.declared.search.Found.TheVariants.{At, Missing}
+use Rattle.std.specs.Prelude.{Some, None}
 use Rattle.spec_strings.specs.Table.{text_of, lookup_from, lookup, entry_start}
 use Rattle.spec_strings.proofs.TableSteps.{lookup_go, lookup_stop, lookup_end}
 use Rattle.hash_index.specs.Hash.{bucket_of}
 use Rattle.hash_index.specs.Chain.{Walk}
-use Rattle.hash_index.proofs.ChainLaws.{in_start, in_next}
-use Rattle.strings.specs.Keys.{bucket_at, TextsFrom, text_from}
+use Rattle.hash_index.proofs.ChainLaws.{in_room, in_rises, in_start, in_next}
+use Rattle.strings.specs.Keys.{bucket_at, text_buckets, TextsFrom, TextsIndexed, text_from}
 
 -- an equal text has the text's bucket
 same_bucket : (m : ℕ) (text bytes ends : List ℕ) (k : ℕ) → same (text_of bytes ends k) text ≡ true → bucket_at m bytes ends k ≡ bucket_of m text
@@ -35,18 +35,28 @@ module _ (m : ℕ) (text bytes ends : List ℕ) (h : ℕ) (e : h ≡ bucket_of m
       other_text text bytes ends i l
       (by_test (same (text_of bytes ends i) text) (λ t. absurd (z (same_bucket m text bytes ends i t ∙ sym e))) (λ t. t))
 
-  module _ (index : List ℕ) (c : TextsFrom m 0 bytes ends index) (b : h < m) where
-    pub text_start : Walk (bucket_at m bytes ends) (length ends) h (text_from text bytes ends) (get_or index h 0)
-    text_start = in_start (bucket_at m bytes ends) m (length ends) index c h (text_from text bytes ends) b passed
+  module _ (index : List ℕ) (q : m ≡ text_buckets (length ends)) (x : TextsIndexed bytes ends index) (b : h < m) where
+    chained : TextsFrom m 0 bytes ends index
+    chained = rw q x
 
-    -- behind an id with another text
-    pub text_next : (k : ℕ) → Walk (bucket_at m bytes ends) (length ends) h (text_from text bytes ends) k → k < length ends → same (text_of bytes ends k) text ≡ false → Walk (bucket_at m bytes ends) (length ends) h (text_from text bytes ends) (get_or index (m + k) 0)
-    text_next k w l t = in_next (bucket_at m bytes ends) m (length ends) index c h (text_from text bytes ends) b passed k w l (other_text text bytes ends k l t)
+    pub text_room : m + length ends ≤ length index
+    text_room = in_room (bucket_at m bytes ends) m (length ends) index chained
+
+    pub text_start : Walk (bucket_at m bytes ends) (length ends) h (text_from text bytes ends) (get_or index h 0)
+    text_start = in_start (bucket_at m bytes ends) m (length ends) index chained h (text_from text bytes ends) b passed
+
+    -- behind an id with another text, which is further on
+    module _ (k : ℕ) (w : Walk (bucket_at m bytes ends) (length ends) h (text_from text bytes ends) k) (l : k < length ends) where
+      pub text_rises : k < get_or index (m + k) 0
+      text_rises = in_rises (bucket_at m bytes ends) m (length ends) index chained b w l
+
+      pub text_next : same (text_of bytes ends k) text ≡ false → Walk (bucket_at m bytes ends) (length ends) h (text_from text bytes ends) (get_or index (m + k) 0)
+      text_next t = in_next (bucket_at m bytes ends) m (length ends) index chained h (text_from text bytes ends) b passed k w l (other_text text bytes ends k l t)
 
 -- the id that has the text, and the end of the chain
 module _ (m : ℕ) (text bytes ends : List ℕ) (h k : ℕ) (w : Walk (bucket_at m bytes ends) (length ends) h (text_from text bytes ends) k) where
-  pub text_found : k < length ends → same (text_of bytes ends k) text ≡ true → At k ≡ found_of (lookup text bytes ends)
+  pub text_found : k < length ends → same (text_of bytes ends k) text ≡ true → Some k ≡ found_of (lookup text bytes ends)
   text_found l t = sym (ap found_of (w.same_answer ∙ lookup_stop bytes ends (entry_start ends k) k l refl text refl t))
 
-  pub text_missing : length ends ≤ k → Missing ≡ found_of (lookup text bytes ends)
+  pub text_missing : length ends ≤ k → None ≡ found_of (lookup text bytes ends)
   text_missing l = sym (ap found_of (w.same_answer ∙ lookup_end bytes ends (entry_start ends k) k text l))

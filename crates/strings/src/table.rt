@@ -1,69 +1,25 @@
 // The string table: bytes and the ends of its entries.
-ghost use Rattle.std.specs.Prelude.{◌≡◌, true, ◌-◌, ◌≤◌};
+ghost use Rattle.std.specs.Prelude.{◌≡◌, true, ◌-◌, ◌≤◌, ◌<◌, length};
 ghost use Rattle.lists.specs.Scan.{part};
 ghost use Rattle.slices.specs.Answers.{found_of};
-ghost use Rattle.spec_strings.specs.Table.{is_too_large, fault, well_formed, lookup};
+ghost use Rattle.spec_strings.specs.Table.{is_too_large, fault, well_formed, lookup, text_of, entry_start};
 ghost use Rattle.strings.specs.Answers.{entry_of};
 ghost use Rattle.strings.specs.Order.{Rising, InOrder};
 
-use slices::search::Found;
 use slices::widen::wide;
 
-// Where a text starts and ends, or that the id is not below the count.
+// The bytes of all texts, and where each text ends. It starts where the one before it ends.
 #[derive(Clone, Copy)]
-pub enum Entry {
-    Text(usize, usize),
-    Missing,
+pub struct StringTable<'a> {
+    pub bytes: &'a [u8],
+    pub ends: &'a [u32],
 }
 
-// Refusal 18: more strings or bytes than a table may have.
-pub fn too_large(bytes: &[u8], ends: &[u32]) -> bool
-    ensures { result ≡ is_too_large bytes.now ends.now }
-{
-    if limits::STRING_LIMIT < ends.len() {
-        return true;
-    }
-    limits::STRING_BYTES_LIMIT < bytes.len()
-}
-
-// The text from start to end, as far as there is any: the ends may fall or pass the bytes.
-pub fn entry_part(bytes: &[u8], start: usize, end: usize) -> &[u8]
-    ensures { result.now ≡ part bytes.now start (end - start) }
-{
-    if end < start {
-        return slices::part::part_of(bytes, start, 0);
-    }
-    slices::part::part_of(bytes, start, end - start)
-}
-
-// Whether an entry is in order: refusal 17.
-fn well_formed(bytes: &[u8], start: usize, end: usize) -> bool
-    ensures { result ≡ well_formed bytes.now start end }
-{
-    if end < start {
-        return false;
-    }
-    if bytes.len() < end {
-        return false;
-    }
-    crate::utf8::is_utf8(&bytes[start..end])
-}
-
-// The first entry that is refused with 17, entry by entry.
-fn walk_entries(bytes: &[u8], ends: &[u32]) -> Found
-    ensures { result ≡ found_of (fault bytes.now ends.now) }
-{
-    let mut start: usize = 0;
-    let mut i: usize = 0;
-    while i < ends.len() {
-        let end = wide(ends[i]);
-        if !well_formed(bytes, start, end) {
-            return Found::At(i);
-        }
-        start = end;
-        i += 1;
-    }
-    Found::Missing
+// Where a text starts and ends.
+#[derive(Clone, Copy)]
+pub struct Entry {
+    pub start: usize,
+    pub end: usize,
 }
 
 // 1 for an end that lies before the one in front of it.
@@ -86,60 +42,122 @@ fn count_falls(ends: &[u32]) -> usize
     n
 }
 
-// Whether no end falls or passes the bytes.
-fn in_order(bytes: &[u8], ends: &[u32]) -> bool
-    ensures { result ≡ true → InOrder bytes.now ends.now }
-{
-    let n = ends.len();
-    if n == 0 {
-        return true;
+impl<'a> StringTable<'a> {
+    // Refusal 18: more strings or bytes than a table may have.
+    pub fn too_large(self) -> bool
+        ensures { result ≡ is_too_large self.entry.bytes.now self.entry.ends.now }
+    {
+        limits::STRING_LIMIT < self.ends.len() || limits::STRING_BYTES_LIMIT < self.bytes.len()
     }
-    if bytes.len() < wide(ends[n - 1]) {
-        return false;
-    }
-    count_falls(ends) == 0
-}
 
-// The first entry that is refused with 17. Most tables are ASCII with their ends in order, and are found sound without a walk over
-// entries and characters.
-pub fn find_fault(bytes: &[u8], ends: &[u32]) -> Found
-    ensures { result ≡ found_of (fault bytes.now ends.now) }
-{
-    if crate::utf8::largest(bytes) < 128 {
-        if in_order(bytes, ends) {
-            return Found::Missing;
+    // The text from start to end, as far as there is any: the ends may fall or pass the bytes.
+    pub fn part(self, start: usize, end: usize) -> &'a [u8]
+        ensures { result.now ≡ part self.entry.bytes.now start (end - start) }
+    {
+        if end < start {
+            return slices::part::part_of(self.bytes, start, 0);
         }
+        slices::part::part_of(self.bytes, start, end - start)
     }
-    walk_entries(bytes, ends)
-}
 
-// Where the text of an id starts and ends.
-pub fn string_at(ends: &[u32], id: usize) -> Entry
-    ensures { result ≡ entry_of ends.now id }
-{
-    if ends.len() <= id {
-        return Entry::Missing;
-    }
-    if id == 0 {
-        return Entry::Text(0, wide(ends[id]));
-    }
-    Entry::Text(wide(ends[id - 1]), wide(ends[id]))
-}
-
-// The first id whose text is equal. Lengths are compared before bytes.
-pub fn lookup(text: &[u8], bytes: &[u8], ends: &[u32]) -> Found
-    ensures { result ≡ found_of (lookup text.now bytes.now ends.now) }
-{
-    let mut start: usize = 0;
-    let mut i: usize = 0;
-    while i < ends.len() {
-        let end = wide(ends[i]);
-        let entry = entry_part(bytes, start, end);
-        if slices::compare::same_bytes(entry, text) {
-            return Found::At(i);
+    // Whether an entry is in order: refusal 17.
+    fn well_formed(self, start: usize, end: usize) -> bool
+        ensures { result ≡ well_formed self.entry.bytes.now start end }
+    {
+        if end < start {
+            return false;
         }
-        start = end;
-        i += 1;
+        if self.bytes.len() < end {
+            return false;
+        }
+        crate::utf8::is_utf8(&self.bytes[start..end])
     }
-    Found::Missing
+
+    // The first entry that is refused with 17, entry by entry.
+    fn walk_entries(self) -> Option<usize>
+        ensures { result ≡ found_of (fault self.entry.bytes.now self.entry.ends.now) }
+    {
+        let mut start: usize = 0;
+        for (i, &end) in self.ends.iter().enumerate() {
+            let end = wide(end);
+            if !self.well_formed(start, end) {
+                return Some(i);
+            }
+            start = end;
+        }
+        None
+    }
+
+    // Whether no end falls or passes the bytes.
+    fn in_order(self) -> bool
+        ensures { result ≡ true → InOrder self.entry.bytes.now self.entry.ends.now }
+    {
+        let n = self.ends.len();
+        if n == 0 {
+            return true;
+        }
+        if self.bytes.len() < wide(self.ends[n - 1]) {
+            return false;
+        }
+        count_falls(self.ends) == 0
+    }
+
+    // The first entry that is refused with 17. Most tables are ASCII with their ends in order, and are found sound without a walk
+    // over entries and characters.
+    pub fn find_fault(self) -> Option<usize>
+        ensures { result ≡ found_of (fault self.entry.bytes.now self.entry.ends.now) }
+    {
+        if crate::utf8::largest(self.bytes) < 128 && self.in_order() {
+            return None;
+        }
+        self.walk_entries()
+    }
+
+    // Where the text of an id starts and ends.
+    pub fn string_at(self, id: usize) -> Option<Entry>
+        ensures { result ≡ entry_of self.entry.ends.now id }
+    {
+        if self.ends.len() <= id {
+            return None;
+        }
+        Some(Entry {
+            start: self.start_of(id),
+            end: wide(self.ends[id]),
+        })
+    }
+
+    // Where the text of an id starts.
+    fn start_of(self, id: usize) -> usize
+        requires { id < length self.ends.now }
+        ensures { result ≡ entry_start self.entry.ends.now id }
+    {
+        if id == 0 {
+            return 0;
+        }
+        wide(self.ends[id - 1])
+    }
+
+    // The text of an id.
+    pub fn text_of(self, id: usize) -> &'a [u8]
+        requires { id < length self.ends.now }
+        ensures { result.now ≡ text_of self.entry.bytes.now self.entry.ends.now id }
+    {
+        self.part(self.start_of(id), wide(self.ends[id]))
+    }
+
+    // The first id whose text is equal. Lengths are compared before bytes.
+    pub fn lookup(self, text: &[u8]) -> Option<usize>
+        ensures { result ≡ found_of (lookup text.now self.entry.bytes.now self.entry.ends.now) }
+    {
+        let mut start: usize = 0;
+        for (i, &end) in self.ends.iter().enumerate() {
+            let end = wide(end);
+            let entry = self.part(start, end);
+            if slices::compare::same_bytes(entry, text) {
+                return Some(i);
+            }
+            start = end;
+        }
+        None
+    }
 }

@@ -1,12 +1,12 @@
 // The index is one lent slice: a head for each bucket, and behind them a next for each id. It answers what `lookup` of the table
 // answers.
-ghost use Rattle.std.specs.Prelude.{◌≡◌, ◌≤◌, ◌<◌, length};
+ghost use Rattle.std.specs.Prelude.{◌≡◌, ◌≤◌, length};
 ghost use Rattle.limits.specs.Limits.{string_limit};
 ghost use Rattle.slices.specs.Answers.{found_of};
-ghost use Rattle.spec_strings.specs.Table.{text_of, lookup, entry_start};
+ghost use Rattle.spec_strings.specs.Table.{lookup};
 ghost use Rattle.strings.specs.Keys.{text_buckets, text_space, TextsIndexed};
 
-use slices::search::Found;
+use crate::table::StringTable;
 
 const MOST_BUCKETS: usize = 16384;
 
@@ -23,25 +23,12 @@ pub const SOME_INDEX: usize = 2 * SOME_STRINGS + 1;
 
 pub const ALL_INDEX: usize = MOST_BUCKETS + limits::STRING_LIMIT;
 
-// Where the text of an id starts.
-fn start_of(ends: &[u32], id: usize) -> usize
-    requires { id < length ends.now }
-    ensures { result ≡ entry_start ends.now id }
-{
-    if id == 0 {
-        return 0;
-    }
-    hash_index::chain::index_at(ends, id - 1)
-}
-
-// The text of an id.
-pub fn text_of<'a>(bytes: &'a [u8], ends: &[u32], id: usize) -> &'a [u8]
-    requires { id < length ends.now }
-    ensures { result.now ≡ text_of bytes.now ends.now id }
-{
-    let start = start_of(ends, id);
-    let end = hash_index::chain::index_at(ends, id);
-    crate::table::entry_part(bytes, start, end)
+// A table's strings, and an index of them.
+#[derive(Clone, Copy)]
+pub struct TextIndex<'a> {
+    pub strings: StringTable<'a>,
+    pub index: &'a [u32],
+    pub ghost indexed: { TextsIndexed strings.bytes.now strings.ends.now index.now },
 }
 
 // How many buckets an index of n texts has.
@@ -56,36 +43,34 @@ fn buckets_of(n: usize) -> usize
 }
 
 // Puts the texts of all ids into chains, from the last id down, so that the first of equal texts is found.
-pub fn index_texts(bytes: &[u8], ends: &[u32], index: &mut [u32])
-    requires { (length ends.now ≤ string_limit) × (text_space (length ends.now) ≤ length index.old) }
-    ensures { TextsIndexed bytes.now ends.now index.new }
+pub fn index_texts(strings: StringTable<'_>, index: &mut [u32])
+    requires { (length strings.ends.now ≤ string_limit) × (text_space (length strings.ends.now) ≤ length index.old) }
+    ensures { TextsIndexed strings.entry.bytes.now strings.entry.ends.now index.new }
 {
-    let m = buckets_of(ends.len());
-    hash_index::chain::empty_heads(index, m, ends.len());
-    let mut left = ends.len();
-    while 0 < left {
-        let id = left - 1;
-        let text = text_of(bytes, ends, id);
-        let h = hash_index::hash::bucket_of(text, m);
+    let n = strings.ends.len();
+    let m = buckets_of(n);
+    hash_index::chain::empty_heads(index, m, n);
+    for id in (0..n).rev() {
+        let h = hash_index::hash::bucket_of(strings.text_of(id), m);
         hash_index::chain::put_in_front(index, m, h, id);
-        left -= 1;
     }
 }
 
-// The first id whose text is equal.
-pub fn lookup_indexed(text: &[u8], bytes: &[u8], ends: &[u32], index: &[u32]) -> Found
-    requires { TextsIndexed bytes.now ends.now index.now }
-    ensures { result ≡ found_of (lookup text.now bytes.now ends.now) }
-{
-    let m = buckets_of(ends.len());
-    let h = hash_index::hash::bucket_of(text, m);
-    let mut id = hash_index::chain::index_at(index, h);
-    while id < ends.len() {
-        let own = text_of(bytes, ends, id);
-        if slices::compare::same_bytes(own, text) {
-            return Found::At(id);
+impl<'a> TextIndex<'a> {
+    // The first id whose text is equal.
+    pub fn find(self, text: &[u8]) -> Option<usize>
+        ensures { result ≡ found_of (lookup text.now self.entry.strings.bytes.now self.entry.strings.ends.now) }
+    {
+        let n = self.strings.ends.len();
+        let m = buckets_of(n);
+        let h = hash_index::hash::bucket_of(text, m);
+        let mut id = hash_index::chain::index_at(self.index, h);
+        while id < n {
+            if slices::compare::same_bytes(self.strings.text_of(id), text) {
+                return Some(id);
+            }
+            id = hash_index::chain::index_at(self.index, m + id);
         }
-        id = hash_index::chain::index_at(index, m + id);
+        None
     }
-    Found::Missing
 }

@@ -1,7 +1,7 @@
 use mathlib.Core.Path.{◌≡◌}
 use native.Mathlib.Omega.{arith}
 use Prim.Native.Nat.{◌-◌}
-use Rattle.strings.proofs.table.entry_part.Goals as goal
+use Rattle.strings.proofs.table.StringTable.part.Goals as goal
 
 pub returns-then-end-start : goal.returns-then-end-start
 returns-then-end-start c =

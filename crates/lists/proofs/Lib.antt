@@ -5,3 +5,4 @@ pub mod Writes
 pub mod Aheads
 pub mod LeftToWrite
 pub mod Clears
+pub mod Links

@@ -10,7 +10,7 @@ use lib.Dec.{eqb, eqb-suc-zero}
 use lib.ListN.{length, drop, get_or, drop_of_length-le}
 use lib.Seq.{drop-cons}
 use Rattle.lists.specs.Scan.{run, all, same, opens}
-use Rattle.lists.specs.Choice.{pick, both}
+use Rattle.lists.specs.Choice.{pick}
 use Rattle.lists.proofs.Tests.{both_left, both_right, both_yes, both_no_right, true_not_false, by_test}
 
 module _ (p : ℕ → Bool) where

@@ -7,6 +7,7 @@ use native.Mathlib.Omega.{arith}
 use lib.Dec.{eqb, leb}
 use lib.ListN.{length, take, drop, get_or}
 use borrow.Author.Tests.{eq-eqb, ne_eqb, le-leb, lt-leb}
+use Rattle.std.specs.Prelude.{Some, None}
 use Rattle.lists.specs.Found.{Found}
 use Rattle.lists.specs.Found.Found.{missing}
 use Rattle.lists.proofs.Parts.{tail_part}
@@ -19,7 +20,6 @@ use Rattle.answers.specs.declared.refusal.OperandFault.TheVariants as fault
 use Rattle.spec_hasm.specs.Token.{found_or, offset_or, target_in, is_near, distance_to}
 use Rattle.spec_hasm.specs.Token.Value.{value, refused}
 use Rattle.numbers.specs.Answers.{number_of}
-use Rattle.numbers.specs.declared.parse.Number.TheVariants as number
 use Rattle.numbers.proofs.AnswerLaws.{number_is, number_bad}
 use Rattle.hasm_tokens.specs.declared.address_token.Target.{Target}
 use Rattle.hasm_tokens.specs.declared.address_token.Target.TheVariants.{Offset}
@@ -36,11 +36,11 @@ module _ (t : List ℕ) (labels : List ℕ → Found) where
   unfolding target_in
   target_by p h e = rw (eq-eqb _ _ h, e)
 
-  pub target_label : get_or t 0 0 ≡ 76 → number_of (parse_u32 (take (length t - 1) (drop 1 t))) ≡ number.Bad → target_in labels t ≡ found_or fault.Address (labels t)
+  pub target_label : get_or t 0 0 ≡ 76 → number_of (parse_u32 (take (length t - 1) (drop 1 t))) ≡ None → target_in labels t ≡ found_or fault.Address (labels t)
   unfolding offset_or
   target_label h e = target_by bad h (number_bad (parse_u32 (drop 1 t)) (rw (tail_part t 1) at e))
 
-  pub target_offset : (n : ℕ) → get_or t 0 0 ≡ 76 → number_of (parse_u32 (take (length t - 1) (drop 1 t))) ≡ number.Is n → target_in labels t ≡ value n
+  pub target_offset : (n : ℕ) → get_or t 0 0 ≡ 76 → number_of (parse_u32 (take (length t - 1) (drop 1 t))) ≡ Some n → target_in labels t ≡ value n
   unfolding offset_or
   target_offset n h e = target_by (is n) h (number_is (parse_u32 (drop 1 t)) n (rw (tail_part t 1) at e))
 

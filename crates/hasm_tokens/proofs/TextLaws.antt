@@ -9,6 +9,7 @@ use lib.Dec.{eqb, leb}
 use lib.ListN.{length, take, drop, get_or}
 use lib.Seq.{take-append_seam}
 use borrow.Author.Tests.{eq-eqb, ne_eqb, le-leb, lt-leb, leb-true}
+use Rattle.std.specs.Prelude.{Result, ok_or}
 use Rattle.lists.specs.Found as search
 use Rattle.lists.specs.Found.Found.{found, missing}
 use Rattle.lists.specs.Scan.{all}
@@ -22,10 +23,8 @@ use Rattle.spec_strings.specs.Table.{lookup}
 use Rattle.spec_hasm.specs.Token.{found_or, unsigned_value, is_quoted, unquoted, string_value}
 use Rattle.spec_hasm.specs.Token.Value.{refused}
 use Rattle.slices.specs.Answers.{found_of}
-use Rattle.slices.specs.declared.search.Found.{Found}
-use Rattle.hasm_tokens.specs.declared.number_token.Value.{Value}
 use Rattle.hasm_tokens.specs.Values.{token_answer}
-use Rattle.hasm_tokens.specs.TextValues.{index_or, is_literal, meant_in, work_after}
+use Rattle.hasm_tokens.specs.TextValues.{is_literal, meant_in, work_after}
 
 module _ (b : ℕ) (s : List ℕ) where
   unescape_go : eqb b 92 ≡ false → unescape false (b ∷ s) ≡ b ∷ unescape false s
@@ -78,16 +77,15 @@ pub work_literal : (s work : List ℕ) → all is_literal s ≡ true → work �
 unfolding meant_in
 work_literal s work e = rw e refl
 
--- an index that was found, or else a refusal
-index_or_lem : (f : OperandFault) (x : search.Found) → index_or f (found_of x) ≡ token_answer (found_or f x)
+-- the id of a text, or else a refusal
+pub id_answer : (f : OperandFault) (x : search.Found) → ok_or (found_of x) f ≡ token_answer (found_or f x)
 unfolding found_or
-index_or_lem f (found n) = refl
-index_or_lem f missing = refl
+id_answer f (found n) = refl
+id_answer f missing = refl
 
 -- what stands between quotes, looked up as it stands where that is what it means
-module _ (bytes ends s : List ℕ) {u : List ℕ} {m : Found} {v : Value} where
-  pub text_read : u ≡ unescape false s → m ≡ found_of (lookup u bytes ends) → v ≡ index_or fault.Text m → v ≡ token_answer (found_or fault.Text (lookup (unescape false s) bytes ends))
-  text_read q e g = g ∙ ap (index_or fault.Text) (e ∙ ap (λ (w : List ℕ). found_of (lookup w bytes ends)) q) ∙ index_or_lem fault.Text (lookup (unescape false s) bytes ends)
+pub text_read : (bytes ends s : List ℕ) {u : List ℕ} {v : Result ℕ OperandFault} → u ≡ unescape false s → v ≡ token_answer (found_or fault.Text (lookup u bytes ends)) → v ≡ token_answer (found_or fault.Text (lookup (unescape false s) bytes ends))
+text_read bytes ends s q g = g ∙ ap (λ (w : List ℕ). token_answer (found_or fault.Text (lookup w bytes ends))) q
 
 -- what stands between the quotes, as it is lent
 lent_inside : (n b : ℕ) (s : List ℕ) → take (n - 1) s ≡ drop 1 (take n (b ∷ s))
@@ -126,7 +124,7 @@ module _ (bytes ends t : List ℕ) where
   unfolding string_value
   string_text_lem h e = rw (eq-eqb (get_or t 0 0) 34 h, e)
 
-  pub string_read : {v : Value} → get_or t 0 0 ≡ 34 → is_quoted t ≡ true
+  pub string_read : {v : Result ℕ OperandFault} → get_or t 0 0 ≡ 34 → is_quoted t ≡ true
       → v ≡ token_answer (found_or fault.Text (lookup (unescape false (take (length t - 1 - 1) (drop 1 t))) bytes ends)) → v ≡ token_answer (string_value bytes ends t)
   string_read h e g = (rw (inside_is t) at g) ∙ sym (ap token_answer (string_text_lem h e))
 

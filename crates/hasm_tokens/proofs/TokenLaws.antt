@@ -6,6 +6,7 @@ use Prim.Native.Nat.{ℕ, ◌-◌}
 use native.Mathlib.Omega.{arith}
 use lib.Dec.{eqb}
 use lib.ListN.{length, take, drop, get_or}
+use Rattle.std.specs.Prelude.{Option, Result, ok_or}
 use Rattle.lists.specs.Choice.{either}
 use Rattle.lists.proofs.Parts.{tail_part}
 use Rattle.spec_numbers.specs.Parse.{Parsed, parse_u32, parse_hex}
@@ -16,18 +17,16 @@ use Rattle.spec_hasm.specs.Line.{has_hex_prefix}
 use Rattle.spec_hasm.specs.Token.{number_or, register_value, unsigned_value}
 use Rattle.spec_hasm.specs.Token.Value.{refused}
 use Rattle.numbers.specs.Answers.{number_of}
-use Rattle.numbers.specs.declared.parse.Number.{Number}
-use Rattle.hasm_tokens.specs.declared.number_token.Value.{Value}
-use Rattle.hasm_tokens.specs.Values.{bits_or, token_answer}
+use Rattle.hasm_tokens.specs.Values.{token_answer}
 
 -- a number that was read, or else a refusal
-number_or_lem : (f : OperandFault) (p : Parsed) → bits_or f (number_of p) ≡ token_answer (number_or f p)
+pub number_answer : (f : OperandFault) (p : Parsed) → ok_or (number_of p) f ≡ token_answer (number_or f p)
 unfolding number_or
-number_or_lem f (is n) = refl
-number_or_lem f bad = refl
+number_answer f (is n) = refl
+number_answer f bad = refl
 
-pub number_read : (f : OperandFault) (p : Parsed) {m : Number} {v : Value} → m ≡ number_of p → v ≡ bits_or f m → v ≡ token_answer (number_or f p)
-number_read f p e q = q ∙ ap (bits_or f) e ∙ number_or_lem f p
+number_read : (f : OperandFault) (p : Parsed) {m : Option ℕ} {v : Result ℕ OperandFault} → m ≡ number_of p → v ≡ ok_or m f → v ≡ token_answer (number_or f p)
+number_read f p e q = q ∙ rw e (number_answer f p)
 
 -- a register: an empty token, no mark, and a mark
 pub register_none : (t : List ℕ) → length t ≡ 0 → register_value t ≡ refused fault.Register
@@ -40,17 +39,17 @@ module _ (t : List ℕ) where
   unfolding register_value
   register_not e = rw e
 
-  pub register_is : {m : Number} {v : Value} → either (eqb (get_or t 0 0) 114) (eqb (get_or t 0 0) 82) ≡ true
-      → m ≡ number_of (parse_u32 (take (length t - 1) (drop 1 t))) → v ≡ bits_or fault.Register m → v ≡ token_answer (register_value t)
+  pub register_is : {m : Option ℕ} {v : Result ℕ OperandFault} → either (eqb (get_or t 0 0) 114) (eqb (get_or t 0 0) 82) ≡ true
+      → m ≡ number_of (parse_u32 (take (length t - 1) (drop 1 t))) → v ≡ ok_or m fault.Register → v ≡ token_answer (register_value t)
   unfolding register_value
   register_is h e f = rw h (number_read fault.Register (parse_u32 (drop 1 t)) (rw (tail_part t 1) at e) f)
 
   -- a number, hexadecimal and decimal
-  pub unsigned_hex : {m : Number} {v : Value} → has_hex_prefix t ≡ true
-      → m ≡ number_of (parse_hex (take (length t - 2) (drop 2 t))) → v ≡ bits_or fault.Number m → v ≡ token_answer (unsigned_value t)
+  pub unsigned_hex : {m : Option ℕ} {v : Result ℕ OperandFault} → has_hex_prefix t ≡ true
+      → m ≡ number_of (parse_hex (take (length t - 2) (drop 2 t))) → v ≡ ok_or m fault.Number → v ≡ token_answer (unsigned_value t)
   unfolding unsigned_value
   unsigned_hex h e f = rw h (number_read fault.Number (parse_hex (drop 2 t)) (rw (tail_part t 2) at e) f)
 
-  pub unsigned_decimal : {m : Number} {v : Value} → has_hex_prefix t ≡ false → m ≡ number_of (parse_u32 t) → v ≡ bits_or fault.Number m → v ≡ token_answer (unsigned_value t)
+  pub unsigned_decimal : {m : Option ℕ} {v : Result ℕ OperandFault} → has_hex_prefix t ≡ false → m ≡ number_of (parse_u32 t) → v ≡ ok_or m fault.Number → v ≡ token_answer (unsigned_value t)
   unfolding unsigned_value
   unsigned_decimal h e f = rw h (number_read fault.Number (parse_u32 t) e f)

@@ -3,18 +3,8 @@ use Rattle.std.specs.Prelude.{ℕ, ◌-◌, Bool, false, not, List, eqb, length,
 use Rattle.lists.specs.Choice.{pick}
 use Rattle.lists.specs.Scan.{all}
 use Rattle.answers.specs.Report.{written}
-use Rattle.answers.specs.declared.refusal.OperandFault.{OperandFault}
 use Rattle.spec_strings.specs.Escape.{unescape}
 use Rattle.spec_hasm.specs.Token.{is_quoted}
-use Rattle.slices.specs.declared.search.Found.{Found}
-use Rattle.slices.specs.declared.search.Found.TheVariants.{At, Missing}
-use Rattle.hasm_tokens.specs.declared.number_token.Value.{Value}
-use Rattle.hasm_tokens.specs.declared.number_token.Value.TheVariants.{Bits, Refused}
-
--- an index that was found, or else the refusal
-abbrev pub index_or : OperandFault → Found → Value
-index_or f (At i) = Bits i
-index_or f Missing = Refused f
 
 -- a byte that means itself between quotes: no backslash
 abbrev pub is_literal : ℕ → Bool

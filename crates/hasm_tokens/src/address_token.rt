@@ -6,9 +6,8 @@ ghost use Rattle.spec_hasm.specs.Token.Value.{value};
 ghost use Rattle.hasm_tokens.specs.Values.{token_answer};
 ghost use Rattle.hasm_tokens.specs.Targets.{target_or};
 
-use crate::number_token::Value;
 use answers::refusal::OperandFault;
-use numbers::parse::{Number, parse_u32};
+use numbers::parse::parse_u32;
 use numbers::signed::wrapping_distance;
 
 // `L` and a u32; `L` and something else, for which the label table decides; or no `L`.
@@ -22,40 +21,30 @@ pub enum Target {
 pub fn target_in(t: &[u8]) -> Target
     ensures { (labels : List ℕ → Found) → target_in labels t.now ≡ target_or result (labels t.now) }
 {
-    if t.len() == 0 {
+    if t.len() == 0 || t[0] != 76 {
         return Target::Bad;
     }
-    if t[0] != 76 {
-        return Target::Bad;
+    match parse_u32(&t[1..]) {
+        Some(n) => Target::Offset(n),
+        None => Target::Label,
     }
-    let read = parse_u32(&t[1..]);
-    let Number::Is(n) = read else {
-        return Target::Label;
-    };
-    Target::Offset(n)
 }
 
 // Whether a distance fits a signed byte.
 fn is_near(distance: u32) -> bool
     ensures { result ≡ is_near distance }
 {
-    if distance <= 127 {
-        return true;
-    }
-    0xffff_ff80 <= distance
+    distance <= 127 || 0xffff_ff80 <= distance
 }
 
 // A distance wraps at 32 bits. Four bytes hold every one; one byte holds a near one.
-pub fn distance_to(width: usize, offset: u64, target: u64) -> Value
+pub fn distance_to(width: usize, offset: u64, target: u64) -> Result<u64, OperandFault>
     requires { (offset < 2 ^ 32) × (target < 2 ^ 32) }
     ensures { result ≡ token_answer (distance_to width offset (value target)) }
 {
     let distance = wrapping_distance(target as u32, offset as u32);
-    if width == 4 {
-        return Value::Bits(distance as u64);
+    if width != 4 && !is_near(distance) {
+        return Err(OperandFault::Distance);
     }
-    if !is_near(distance) {
-        return Value::Refused(OperandFault::Distance);
-    }
-    Value::Bits(distance as u64)
+    Ok(distance as u64)
 }

@@ -1,72 +1,52 @@
-// Tokens that are numbers: registers, decimal and hexadecimal numbers, signed numbers and doubles.
+// Tokens that are numbers: registers, decimal and hexadecimal numbers, signed numbers and doubles. Each answers the bits of the token's
+// value, or what is wrong with the token.
 ghost use Rattle.std.specs.Prelude.{◌≡◌, eqb};
 ghost use Rattle.lists.specs.Choice.{either};
 ghost use Rattle.answers.specs.declared.refusal.OperandFault.TheVariants as fault;
 ghost use Rattle.spec_numbers.specs.Parse.{parse_i32};
 ghost use Rattle.spec_numbers.specs.Double.{read_double};
 ghost use Rattle.spec_hasm.specs.Token.{number_or, register_value, unsigned_value};
-ghost use Rattle.hasm_tokens.specs.Values.{bits_or, token_answer};
+ghost use Rattle.hasm_tokens.specs.Values.{token_answer};
 
 use answers::refusal::OperandFault;
 use hasm_read::hex_prefix::has_hex_prefix;
-use numbers::parse::{Number, parse_hex, parse_i32, parse_u32};
+use numbers::parse::{parse_hex, parse_i32, parse_u32};
 use numbers::read_double::read_double;
-
-// The bits of a token's value, or what is wrong with the token.
-#[derive(Clone, Copy)]
-pub enum Value {
-    Bits(u64),
-    Refused(OperandFault),
-}
-
-// A number that was read, or else the refusal.
-fn bits_or(fault: OperandFault, read: Number) -> Value
-    ensures { result ≡ bits_or fault read }
-{
-    let Number::Is(n) = read else {
-        return Value::Refused(fault);
-    };
-    Value::Bits(n)
-}
 
 fn is_register_letter(b: u8) -> bool
     ensures { result ≡ either (eqb b 114) (eqb b 82) }
 {
-    if b == 114 {
-        return true;
-    }
-    b == 82
+    b == 114 || b == 82
 }
 
-pub fn register_value(t: &[u8]) -> Value
+pub fn register_value(t: &[u8]) -> Result<u64, OperandFault>
     ensures { result ≡ token_answer (register_value t.now) }
 {
-    if t.len() == 0 {
-        return Value::Refused(OperandFault::Register);
+    if t.len() == 0 || !is_register_letter(t[0]) {
+        return Err(OperandFault::Register);
     }
-    if !is_register_letter(t[0]) {
-        return Value::Refused(OperandFault::Register);
-    }
-    bits_or(OperandFault::Register, parse_u32(&t[1..]))
+    parse_u32(&t[1..]).ok_or(OperandFault::Register)
 }
 
-pub fn unsigned_value(t: &[u8]) -> Value
+pub fn unsigned_value(t: &[u8]) -> Result<u64, OperandFault>
     ensures { result ≡ token_answer (unsigned_value t.now) }
 {
     if has_hex_prefix(t) {
-        return bits_or(OperandFault::Number, parse_hex(&t[2..]));
+        return parse_hex(&t[2..]).ok_or(OperandFault::Number);
     }
-    bits_or(OperandFault::Number, parse_u32(t))
+    parse_u32(t).ok_or(OperandFault::Number)
 }
 
-pub fn signed_value(t: &[u8]) -> Value
+#[tactic(auto, using(crate::proofs::TokenLaws::number_answer))]
+pub fn signed_value(t: &[u8]) -> Result<u64, OperandFault>
     ensures { result ≡ token_answer (number_or fault.Number (parse_i32 t.now)) }
 {
-    bits_or(OperandFault::Number, parse_i32(t))
+    parse_i32(t).ok_or(OperandFault::Number)
 }
 
-pub fn double_value(t: &[u8]) -> Value
+#[tactic(auto, using(crate::proofs::TokenLaws::number_answer))]
+pub fn double_value(t: &[u8]) -> Result<u64, OperandFault>
     ensures { result ≡ token_answer (number_or fault.Double (read_double t.now)) }
 {
-    bits_or(OperandFault::Double, read_double(t))
+    read_double(t).ok_or(OperandFault::Double)
 }

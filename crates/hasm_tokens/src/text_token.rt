@@ -5,24 +5,20 @@ ghost use Rattle.answers.specs.declared.refusal.OperandFault.TheVariants as faul
 ghost use Rattle.spec_strings.specs.Escape.{unescape};
 ghost use Rattle.spec_strings.specs.Table.{lookup};
 ghost use Rattle.spec_hasm.specs.Token.{found_or, is_quoted, string_value};
-ghost use Rattle.strings.specs.Keys.{TextsIndexed};
 ghost use Rattle.hasm_tokens.specs.Values.{token_answer};
-ghost use Rattle.hasm_tokens.specs.TextValues.{index_or, is_literal, meant_in, work_after};
+ghost use Rattle.hasm_tokens.specs.TextValues.{is_literal, meant_in, work_after};
 
-use crate::number_token::{Value, unsigned_value};
+use crate::number_token::unsigned_value;
 use answers::refusal::OperandFault;
-use slices::search::Found;
-use strings::text_index::lookup_indexed;
+use strings::text_index::TextIndex;
 use strings::unescape::put_unescaped;
 
-// An index that was found, or else the refusal.
-fn index_or(fault: OperandFault, found: Found) -> Value
-    ensures { result ≡ index_or fault found }
+// The id of a text, or else the refusal.
+fn id_of(texts: TextIndex<'_>, text: &[u8]) -> Result<u64, OperandFault>
+    ensures { result ≡ token_answer (found_or fault.Text (lookup text.now texts.entry.strings.bytes.now texts.entry.strings.ends.now)) }
 {
-    let Found::At(i) = found else {
-        return Value::Refused(fault);
-    };
-    Value::Bits(i as u64)
+    let id = texts.find(text).ok_or(OperandFault::Text)?;
+    Ok(id as u64)
 }
 
 // All bytes but the backslash.
@@ -41,45 +37,36 @@ fn all_literal(s: &[u8]) -> bool
 }
 
 // The id of what stands between the quotes. A text without a backslash means itself, so it is looked up where it stands.
-fn quoted_value(inside: &[u8], bytes: &[u8], ends: &[u32], ids: &[u32], work: &mut [u8]) -> Value
-    requires { TextsIndexed bytes.now ends.now ids.now × (length inside.now ≤ length work.old) }
-    ensures value { result ≡ token_answer (found_or fault.Text (lookup (unescape false inside.now) bytes.now ends.now)) }
+fn quoted_value(inside: &[u8], texts: TextIndex<'_>, work: &mut [u8]) -> Result<u64, OperandFault>
+    requires { length inside.now ≤ length work.old }
+    ensures value { result ≡ token_answer (found_or fault.Text (lookup (unescape false inside.now) texts.entry.strings.bytes.now texts.entry.strings.ends.now)) }
     ensures work_after { work.new ≡ meant_in inside.now work.old }
 {
     if all_literal(inside) {
-        return index_or(OperandFault::Text, lookup_indexed(inside, bytes, ends, ids));
+        return id_of(texts, inside);
     }
     let n = put_unescaped(work, 0, inside);
-    index_or(
-        OperandFault::Text,
-        lookup_indexed(&work[..n], bytes, ends, ids),
-    )
+    id_of(texts, &work[..n])
 }
 
 // Whether a quote ends a token that a quote opens.
 fn is_quoted(t: &[u8]) -> bool
     ensures { result ≡ is_quoted t.now }
 {
-    if t.len() < 2 {
-        return false;
-    }
-    t[t.len() - 1] == 34
+    2 <= t.len() && t[t.len() - 1] == 34
 }
 
 // The value of a string's token. What a text with a backslash means is left at the front of `work`.
-pub fn string_value(t: &[u8], bytes: &[u8], ends: &[u32], ids: &[u32], work: &mut [u8]) -> Value
-    requires { TextsIndexed bytes.now ends.now ids.now × (length t.now ≤ length work.old) }
-    ensures value { result ≡ token_answer (string_value bytes.now ends.now t.now) }
+pub fn string_value(t: &[u8], texts: TextIndex<'_>, work: &mut [u8]) -> Result<u64, OperandFault>
+    requires { length t.now ≤ length work.old }
+    ensures value { result ≡ token_answer (string_value texts.entry.strings.bytes.now texts.entry.strings.ends.now t.now) }
     ensures work_after { work.new ≡ work_after t.now work.old }
 {
-    if t.len() == 0 {
-        return unsigned_value(t);
-    }
-    if t[0] != 34 {
+    if t.len() == 0 || t[0] != 34 {
         return unsigned_value(t);
     }
     if !is_quoted(t) {
-        return Value::Refused(OperandFault::Quotes);
+        return Err(OperandFault::Quotes);
     }
-    quoted_value(&t[1..t.len() - 1], bytes, ends, ids, work)
+    quoted_value(&t[1..t.len() - 1], texts, work)
 }

@@ -5,6 +5,7 @@ use Prim.Native.Nat.{ℕ, ◌+◌, ◌-◌, ◌^◌, ◌≤◌, ◌<◌}
 use native.Mathlib.Omega.{arith}
 use lib.Dec.{eqb}
 use lib.ListN.{length, drop, get_or}
+use borrow.Author.Tests.{le-leb}
 use Rattle.lists.specs.Scan.{same, opens}
 use Rattle.lists.proofs.Tests.{by_test, by_eqb, by_leb}
 use Rattle.spec_numbers.specs.Parse.{Parsed, parse_u32, parse_hex, parse_i32, unsigned_value}
@@ -12,7 +13,7 @@ use Rattle.spec_numbers.specs.Parse.Parsed.{is, bad}
 use Rattle.spec_numbers.specs.Double.{bits_of_whole, negative, infinity_text, hex_mark, with_sign, whole_digits, read_whole, read_hex16, read_double}
 use Rattle.spec_numbers.proofs.ParseLaws.{unsigned_bound, u32_bound, i32_bound}
 use Rattle.spec_numbers.proofs.WholeLaws.{bad_not_is, same_is, bits_below}
-use Rattle.numbers.proofs.ReadLaws.{digits_many, digits_are, whole_minus, whole_plus, whole_plain, double_infinity, double_minus_infinity, double_hex, double_whole}
+use Rattle.numbers.proofs.ReadLaws.{digits_many, whole_minus, whole_plus, whole_plain, double_infinity, double_minus_infinity, double_hex, double_whole}
 use Rattle.answers.specs.declared.refusal.OperandFault.{OperandFault}
 use Rattle.answers.specs.declared.refusal.OperandFault.TheVariants as fault
 use Rattle.spec_hasm.specs.Line.{has_hex_prefix}
@@ -43,6 +44,11 @@ module _ (t : List ℕ) (n : ℕ) where
 
   pub signed_below : number_or fault.Number (parse_i32 t) ≡ value n → n < 2 ^ 32
   signed_below e = i32_bound n t (number_was fault.Number n (parse_i32 t) e)
+
+-- digits, no more than there may be
+digits_are : (sign : ℕ) (s : List ℕ) (p : Parsed) → length s ≤ 16 → unsigned_value 10 (2 ^ 53) s ≡ p → with_sign sign (whole_digits s) ≡ with_sign sign p
+unfolding whole_digits
+digits_are sign s p h e = rw (le-leb _ _ h, e)
 
 -- a double that was read: the digits of a whole number with a sign, hexadecimal digits, and a word
 digits_below : (sign n : ℕ) (s : List ℕ) → sign ≤ 2 ^ 63 → with_sign sign (whole_digits s) ≡ is n → n < 2 ^ 64

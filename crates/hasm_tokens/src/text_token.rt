@@ -14,11 +14,14 @@ use strings::text_index::TextIndex;
 use strings::unescape::put_unescaped;
 
 // The id of a text, or else the refusal.
+#[tactic(auto, using(crate::proofs::TextLaws::id_answer))]
 fn id_of(texts: TextIndex<'_>, text: &[u8]) -> Result<u64, OperandFault>
     ensures { result ≡ token_answer (found_or fault.Text (lookup text.now texts.entry.strings.bytes.now texts.entry.strings.ends.now)) }
 {
-    let id = texts.find(text).ok_or(OperandFault::Text)?;
-    Ok(id as u64)
+    texts
+        .find(text)
+        .map(|id| id as u64)
+        .ok_or(OperandFault::Text)
 }
 
 // All bytes but the backslash.

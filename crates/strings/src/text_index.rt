@@ -74,3 +74,13 @@ impl<'a> TextIndex<'a> {
         None
     }
 }
+
+impl<'a> StringTable<'a> {
+    // How long an index of the table's texts is.
+    pub fn index_size(self) -> usize
+        ensures { result ≡ text_space (length self.entry.ends.now) }
+    {
+        let n = self.ends.len();
+        buckets_of(n) + n
+    }
+}

@@ -1,50 +1,69 @@
 -- From an answer back to what its definition gives. Assumes nothing.
-use mathlib.Core.Path.{◌≡◌, refl}
+use mathlib.Core.Path.{◌≡◌, refl, ap, sym, ◌∙◌}
 use Prim.Native.Nat.{ℕ}
-use mathlib.Core.Bool.{true, false}
-use native.Mathlib.Omega.{arith}
+use mathlib.Core.Bool.{Bool, true, false, not}
+use Rattle.std.specs.Prelude.{Option, Some, None, Result, Ok, Err}
+use Rattle.std.specs.Result.{IsErrAnd}
+use Rattle.std.specs.Option.{is_some, ok_or}
 use Rattle.lists.specs.Found.{Found}
-use Rattle.lists.specs.Found.Found.{missing}
+use Rattle.lists.specs.Found.Found.{found, missing}
 use Rattle.slices.specs.Answers.{found_of}
-use Rattle.slices.specs.declared.search.Found.TheVariants.{At}
-use Rattle.slices.proofs.SearchLaws.{was_at}
 use Rattle.spec_sheet.specs.Sheet.{is_missing}
 use Rattle.spec_sheet.specs.Scan.{Step}
 use Rattle.spec_sheet.specs.Scan.Step.{next, off}
-use Rattle.sheet.specs.declared.scan.Step.TheVariants.{Next, Off}
-use Rattle.sheet.specs.Answers.{step_of}
+use Rattle.sheet.specs.declared.scan.Reading.{Reading}
+use Rattle.sheet.specs.Answers.{step_of, place_of}
 
-pub was_next : (x : Step) {v a : ℕ} → step_of x ≡ Next v a → x ≡ next v a
+-- a reading that was made, and one that was not
+pub was_next : (x : Step) {r : Reading} → step_of x ≡ Some r → x ≡ next r.value r.next
 unfolding step_of
-was_next (next w b) {v} {a} e = let p : w ≡ v = cc in let q : b ≡ a = cc in rw (p, q)
-was_next off e = let z : ◌≡◌ {A = ℕ} 0 1 = cc in absurd (omega arith)
+was_next (next w b) {r} e =
+    let q : ◌≡◌ {A = Reading} (record { value = w; next = b }) r = cc e in
+    ap (λ (t : Reading). next t.value t.next) q
+was_next off e = cc e
 
-pub was_off : (x : Step) → step_of x ≡ Off → x ≡ off
+pub was_off : (x : Step) → step_of x ≡ None → x ≡ off
 unfolding step_of
-was_off (next w b) e = let z : ◌≡◌ {A = ℕ} 0 1 = cc in absurd (omega arith)
+was_off (next w b) e = cc e
 was_off off e = refl
 
--- the two answers
-pub next_is : (v a : ℕ) → Next v a ≡ step_of (next v a)
-unfolding step_of
-next_is v a = refl
+-- the same of a reading of which the place alone is answered
+pub record Behind (x : Step) (a : ℕ) : Type 0 where
+  pub value : ℕ
+  pub is_next : x ≡ next value a
 
-pub off_is : Off ≡ step_of off
-unfolding step_of
-off_is = refl
+pub was_place : (x : Step) {a : ℕ} → place_of x ≡ Some a → Behind x a
+unfolding place_of
+was_place (next w b) {a} e = let q : b ≡ a = cc e in record { value = w; is_next = ap (next w) q }
+was_place off e = cc e
 
--- an answer that is told by its fields, and one that is none
-pub as_told : (x : Step) {n k v b : ℕ} → x ≡ next n k → Next n k ≡ Next v b → x ≡ next v b
-as_told x {n} {k} {v} {b} e f = let p : n ≡ v = cc f in let q : k ≡ b = cc f in rw (p, q) at e
+pub was_no_place : (x : Step) → place_of x ≡ None → x ≡ off
+unfolding place_of
+was_no_place (next w b) e = cc e
+was_no_place off e = refl
 
-pub none_told : {P : Type 0} {v b : ℕ} → Off ≡ Next v b → P
-none_told e = absurd (let z : ◌≡◌ {A = ℕ} 0 1 = cc e in omega arith)
-
--- a name that was found, and one that was not
-pub name_found : (x : Found) {k : ℕ} → found_of x ≡ At k → false ≡ is_missing x
+-- whether a name was found
+pub name_told : (x : Found) (r : Option ℕ) (b : Bool) → r ≡ found_of x → is_some r ≡ not b → b ≡ is_missing x
 unfolding is_missing
-name_found x e = rw (was_at x e)
+name_told (found k) r true e f = let q : true ≡ false = rw e at f in cc q
+name_told (found k) r false e f = refl
+name_told missing r true e f = refl
+name_told missing r false e f = let q : false ≡ true = rw e at f in cc q
 
 pub name_missing : (x : Found) → x ≡ missing → true ≡ is_missing x
 unfolding is_missing
 name_missing x e = rw e
+
+-- what `ok_or` was given, from what it answered
+pub or_value : {A E : Type 0} (o : Option A) (e : E) {v : A} {r : Result A E} → r ≡ ok_or o e → r ≡ Ok v → o ≡ Some v
+or_value (Some x) e {v} {r} p q = let t : ◌≡◌ {A = Result _ _} (Ok x) (Ok v) = sym p ∙ q in cc t
+or_value None e {v} {r} p q = let t : ◌≡◌ {A = Result _ _} (Err e) (Ok v) = sym p ∙ q in cc t
+
+pub or_error : {A E : Type 0} (o : Option A) (e : E) {f : E} {r : Result A E} → r ≡ ok_or o e → r ≡ Err f → (o ≡ None) × (f ≡ e)
+or_error (Some x) e {f} {r} p q = let t : ◌≡◌ {A = Result _ _} (Ok x) (Err f) = sym p ∙ q in cc t
+or_error None e {f} {r} p q = let t : ◌≡◌ {A = Result _ _} (Err e) (Err f) = sym p ∙ q in (refl, cc t)
+
+-- what `?` answers on an error
+pub is_error : {A E : Type 0} (r : Result A E) {f : E} → IsErrAnd r (λ x. x ≡ f) → r ≡ Err f
+is_error (Ok v) h = absurd h
+is_error (Err x) h = ap Err h

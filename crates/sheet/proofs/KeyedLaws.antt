@@ -12,38 +12,27 @@ use Rattle.lists.proofs.Scans.{run_cons_go, opens_split}
 use Rattle.spec_numbers.specs.Parse.{unsigned_value}
 use Rattle.spec_numbers.specs.Parse.Parsed.{is}
 use Rattle.spec_sheet.specs.Scan.{after, literal_at, is_digit, number_at, keyed_at}
-use Rattle.spec_sheet.specs.Scan.Step.{next}
+use Rattle.spec_sheet.specs.Scan.Step.{next, off}
 use Rattle.spec_sheet.specs.Line.{jump_at}
 use Rattle.spec_sheet.proofs.ScanLaws.{number_value}
-use Rattle.sheet.specs.Answers.{step_of}
-use Rattle.sheet.specs.declared.scan.Step.{Step}
-use Rattle.sheet.specs.declared.scan.Step.TheVariants.{Next, Off}
-use Rattle.sheet.proofs.AnswerLaws.{was_next, was_off, next_is, off_is}
 
 module _ (key : List ℕ) (most : ℕ) (tail s : List ℕ) (at : ℕ) where
   -- another text stands in front
-  pub no_key : (k : Step) → k ≡ step_of (literal_at key s at) → k ≡ Off → k ≡ step_of (keyed_at key most tail s at)
+  pub no_key : literal_at key s at ≡ off → keyed_at key most tail s at ≡ off
   unfolding keyed_at after
-  no_key k e f = rw (was_off _ (sym e ∙ f)) (f ∙ off_is)
+  no_key e = rw e
 
-  module _ (k : Step) {u a : ℕ} (e : k ≡ step_of (literal_at key s at)) (f : k ≡ Next u a) where
-    -- no number follows
-    pub no_number : (v : Step) → v ≡ step_of (number_at most s a) → v ≡ Off → v ≡ step_of (keyed_at key most tail s at)
-    unfolding keyed_at after
-    no_number v g h = rw (was_next _ (sym e ∙ f), was_off _ (sym g ∙ h)) (h ∙ off_is)
+  -- no number follows
+  pub no_number : {u a : ℕ} → literal_at key s at ≡ next u a → number_at most s a ≡ off → keyed_at key most tail s at ≡ off
+  unfolding keyed_at after
+  no_number e f = rw (e, f)
 
-    module _ (v : Step) {n b : ℕ} (g : v ≡ step_of (number_at most s a)) (h : v ≡ Next n b) where
-      -- another text stands behind
-      pub no_tail : (t : Step) → t ≡ step_of (literal_at tail s b) → t ≡ Off → t ≡ step_of (keyed_at key most tail s at)
-      unfolding keyed_at after
-      no_tail t i j = rw (was_next _ (sym e ∙ f), was_next _ (sym g ∙ h), was_off _ (sym i ∙ j)) (j ∙ off_is)
+  -- another text stands behind
+  pub no_tail : {u a v b : ℕ} → literal_at key s at ≡ next u a → number_at most s a ≡ next v b → literal_at tail s b ≡ off → keyed_at key most tail s at ≡ off
+  unfolding keyed_at after
+  no_tail e f g = rw (e, f, g)
 
-      -- all three are there
-      pub keyed_whole : (t : Step) {w c : ℕ} → t ≡ step_of (literal_at tail s b) → t ≡ Next w c → Next n c ≡ step_of (keyed_at key most tail s at)
-      unfolding keyed_at after
-      keyed_whole t i j = rw (was_next _ (sym e ∙ f), was_next _ (sym g ∙ h), was_next _ (sym i ∙ j)) (next_is _ _)
-
--- the same by its three readings
+-- all three are there
 pub keyed_read : (key : List ℕ) (most : ℕ) (tail s : List ℕ) (at : ℕ) {u a v b w c : ℕ} → literal_at key s at ≡ next u a → number_at most s a ≡ next v b → literal_at tail s b ≡ next w c
     → keyed_at key most tail s at ≡ next v c
 unfolding keyed_at after

@@ -7,11 +7,11 @@ use lib.Dec.{ltb}
 use lib.ListN.{length, get_or}
 use native.Mathlib.Omega.{arith}
 use borrow.Author.Tests.{ltb-true, eq-eqb, ne_eqb}
+use Rattle.std.specs.Prelude.{Some, None}
 use Rattle.lists.specs.Scan.{same}
 use Rattle.lists.proofs.Tests.{by_test, both_left, both_right}
 use Rattle.lists.proofs.Scans.{same_eq}
 use Rattle.slices.specs.Answers.{found_of}
-use Rattle.slices.specs.declared.search.Found.TheVariants.{At, Missing}
 use Rattle.spec_sheet.specs.Line.{name_size, name_in}
 use Rattle.spec_sheet.specs.Sheet.{has_name, find_name}
 use Rattle.spec_sheet.proofs.NameLaws.{find_end, find_here, find_next}
@@ -56,8 +56,8 @@ module _ (s name : List ℕ) (rows : List (List ℕ)) (h : ℕ) (e : h ≡ bucke
 
 -- the opcode that has the name, and the end of the chain
 module _ (s name : List ℕ) (rows : List (List ℕ)) (h k : ℕ) (w : Walk (bucket_at s rows) 256 h (name_from s name rows) k) where
-  pub name_found : has_name s name (get_or rows k []) ≡ true → At k ≡ found_of (find_name s name 0 rows)
+  pub name_found : has_name s name (get_or rows k []) ≡ true → Some k ≡ found_of (find_name s name 0 rows)
   name_found t = sym (ap found_of (w.same_answer ∙ find_here s name rows k t))
 
-  pub name_missing : length rows ≤ k → Missing ≡ found_of (find_name s name 0 rows)
+  pub name_missing : length rows ≤ k → None ≡ found_of (find_name s name 0 rows)
   name_missing l = sym (ap found_of (w.same_answer ∙ find_end s name rows k l))

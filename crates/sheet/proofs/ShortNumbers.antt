@@ -18,8 +18,6 @@ use Rattle.spec_numbers.proofs.ParseLaws.{value_of_digit, value_step}
 use Rattle.spec_sheet.specs.Scan.{is_digit, number_at}
 use Rattle.spec_sheet.specs.Scan.Step.{next}
 use Rattle.spec_sheet.proofs.ScanLaws.{number_value}
-use Rattle.sheet.specs.declared.scan.Step.TheVariants.{Next}
-use Rattle.sheet.proofs.AnswerLaws.{as_told}
 
 -- one digit more
 digit_step : (n b : ℕ) (s : List ℕ) → is_digit b ≡ true → n * 10 + (b - 48) ≤ 255 → digits_value 10 255 n (b ∷ s) ≡ digits_value 10 255 (n * 10 + (b - 48)) s
@@ -35,9 +33,9 @@ first_step b s d =
     let z : 0 * 10 + (b - 48) ≡ b - 48 = omega arith in
     rw z at (digit_step 0 b s d (omega arith))
 
--- a number that was read, told by its fields
-pub short_told : (s : List ℕ) (at m n k v b : ℕ) → number_at 255 s at ≡ next n k → m ≡ n → k ≤ at + 3 → Next m k ≡ Next v b → (number_at 255 s at ≡ next v b) × (b ≤ at + 3)
-short_told s at m n k v b e f h g = let q : k ≡ b = cc g in (as_told (number_at 255 s at) (rw (sym f) at e) g, omega arith)
+-- a number that is told by another word for its value
+pub worth : (s : List ℕ) (at m n b : ℕ) → number_at 255 s at ≡ next n b → m ≡ n → number_at 255 s at ≡ next m b
+worth s at m n b e f = rw (sym f) at e
 
 module _ (s : List ℕ) (at : ℕ) where
   -- digits, a space behind them, and what they are worth

@@ -6,7 +6,8 @@ use Prim.Native.Nat.{ℕ, suc, ◌+◌, ◌/◌, ◌%◌, ◌^◌, ◌≤◌, �
 use native.Mathlib.Omega.{arith}
 use lib.ListN.{length, drop, get_or, take-append-drop}
 use lib.Seq.{drop-drop, drop-cons}
-use borrow.Author.Tests.{eq-eqb, ne_eqb}
+use borrow.Author.Tests.{ne_eqb}
+use Rattle.std.specs.Prelude.{Option, IfSome}
 use Rattle.lists.specs.Scan.{Bytes, all, same, run, part}
 use Rattle.lists.specs.Text.{text}
 use Rattle.lists.proofs.Parts.{part_length}
@@ -18,8 +19,7 @@ use Rattle.spec_sheet.specs.Scan.{is_name_byte, type_at}
 use Rattle.spec_sheet.specs.Scan.Step.{next}
 use Rattle.spec_sheet.proofs.ScanLaws.{type_here}
 use Rattle.sheet.specs.TypeWords.{Names, step_to}
-use Rattle.sheet.specs.declared.scan.Step.{Step}
-use Rattle.sheet.specs.declared.scan.Step.TheVariants.{Next, Off}
+use Rattle.sheet.specs.declared.scan.Reading.{Reading}
 use Rattle.sheet.proofs.WordLaws.{front_bytes, byte_behind}
 
 module _ (s : List ℕ) (at n : ℕ) (bs : Bytes s) (h : at + 8 ≤ length s) (l : n < 8) where
@@ -35,16 +35,13 @@ module _ (s : List ℕ) (at n : ℕ) (bs : Bytes s) (h : at + 8 ≤ length s) (l
       ap (run is_name_byte) d ∙ (run_stops is_name_byte (part s at n) (get_or s (at + n) 0) (drop (suc (at + n)) s) a b ∙ part_length s at n (omega arith)) in
       type_here s at n code (sym r) (sym t) z
 
-  pub word_step : (w code : ℕ) (r : Step) → w ≡ le (part s at 8) → is_name_byte (w / 256 ^ n % 256) ≡ false → ((code ≡ 0 → ⊥) → Names n (w % 256 ^ n) code) → r ≡ step_to code (at + n)
-      → (c b : ℕ) → r ≡ Next c b → type_at s at ≡ next c b
+  pub word_step : (w code : ℕ) {r : Option Reading} → w ≡ le (part s at 8) → is_name_byte (w / 256 ^ n % 256) ≡ false → ((code ≡ 0 → ⊥) → Names n (w % 256 ^ n) code) → r ≡ step_to code (at + n)
+      → IfSome r (λ t. type_at s at ≡ next t.value t.next)
   unfolding step_to
-  word_step w code r f e named q c b p =
+  word_step w code f e named q =
       by_eqb code 0
-      (λ z. absurd (let g : Next c b ≡ Off = sym p ∙ (q ∙ rw (eq-eqb code 0 z)) in let y : ◌≡◌ {A = ℕ} 0 1 = cc g in omega arith))
-      (λ z. let g : Next c b ≡ Next code (at + n) = sym p ∙ (q ∙ rw (ne_eqb code 0 z)) in
-      let x : c ≡ code = cc g in
-      let y : b ≡ at + n = cc g in
-      rw (x, y) (word_read code (rw f at e) (rw f at (named z)) z))
+      (λ z. rw (q, z) tt)
+      (λ z. rw (q, ne_eqb code 0 z) (word_read code (rw f at e) (rw f at (named z)) z))
 
 -- the twelve names as numbers
 pub reg8 : Names 4 0x38676552 1

@@ -6,6 +6,7 @@ use Prim.Native.Nat.{ℕ, suc, ◌+◌, ◌-◌, ◌≤◌, ◌<◌}
 use native.Mathlib.Omega.{arith}
 use lib.Dec.{eqb}
 use lib.ListN.{length, get_or, set, replicate, length-append}
+use Rattle.std.specs.Prelude.{Option, Some}
 use Rattle.lists.proofs.Parts.{fill_next}
 use Rattle.spec_sheet.specs.Scan.{type_at, after}
 use Rattle.spec_sheet.specs.Scan.Step.{next, off}
@@ -92,6 +93,6 @@ module _ (s row : List ℕ) (from at i : ℕ) (g : Going s row from at i) where
       last : eqb (get_or s b 0) 44 ≡ false → types_from 8 s from ≡ types (g.codes ++ (c ∷ [])) b
       last f = g.left ∙ (rw (less, one_last (8 - (i + 1)) s at c b e f) (with_types_lem g.codes (c ∷ []) b))
 
-      pub done : eqb (get_or s b 0) 44 ≡ false → ◌≡◌ {A = Types} (record { ok = true; row = set row i c; count = i + 1; next = b }) (types_of (types_from 8 s from))
+      pub done : eqb (get_or s b 0) 44 ≡ false → ◌≡◌ {A = Option Types} (Some (record { row = set row i c; count = i + 1; next = b })) (types_of (types_from 8 s from))
       unfolding types_of
-      done f = rw (last f, counted, stored)
+      done f = rw (last f, counted, stored) refl

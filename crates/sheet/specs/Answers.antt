@@ -1,15 +1,19 @@
 -- The answers of the sheet's functions, as their definitions give them. Assumes nothing.
-use Rattle.std.specs.Prelude.{ℕ, Bool, true, false}
+use Rattle.std.specs.Prelude.{ℕ, Bool, true, false, Option, Some, None}
 use Rattle.spec_sheet.specs.Scan as scan
 use Rattle.spec_sheet.specs.Scan.{is_digit, is_name_byte}
 use Rattle.spec_sheet.specs.Scan.Step.{next, off}
-use Rattle.sheet.specs.declared.scan.Step as answer
-use Rattle.sheet.specs.declared.scan.Step.TheVariants.{Next, Off}
+use Rattle.sheet.specs.declared.scan.Reading.{Reading}
 
 -- a reading
-unfoldable pub step_of : scan.Step → answer.Step
-step_of (next value at) = Next value at
-step_of off = Off
+unfoldable pub step_of : scan.Step → Option Reading
+step_of (next value at) = Some (record { value = value; next = at })
+step_of off = None
+
+-- a reading whose value says nothing: the place behind it
+unfoldable pub place_of : scan.Step → Option ℕ
+place_of (next value at) = Some at
+place_of off = None
 
 -- what a word consists of: letters, digits and underscores, or digits alone
 abbrev pub is_word_byte : Bool → ℕ → Bool

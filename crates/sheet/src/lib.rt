@@ -11,4 +11,5 @@ pub mod operand_types; // the twelve types: widths, families, kinds
 pub mod row; // the length and the operand count of a row of type codes
 pub mod rows; // an opcode line stored, a name looked up
 pub mod scan; // the parts of a line
+pub mod tables; // a sheet that was read
 pub mod type_word; // the name of an operand type by one word

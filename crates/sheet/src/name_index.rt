@@ -7,8 +7,6 @@ ghost use Rattle.spec_sheet.specs.Line.{name_in};
 ghost use Rattle.spec_sheet.specs.Sheet.{find_name};
 ghost use Rattle.sheet.specs.Keys.{name_buckets, opcode_count, NamesIndexed};
 
-use slices::search::Found;
-
 const NAME_BUCKETS: usize = 256;
 
 const OPCODE_COUNT: usize = 256;
@@ -43,20 +41,31 @@ pub fn index_names(sheet: &[u8], ops: &[[usize; 4]; 256], index: &mut [u32])
     }
 }
 
-// The first opcode that has a name.
-pub fn find_indexed(sheet: &[u8], ops: &[[usize; 4]; 256], index: &[u32], name: &[u8]) -> Found
-    requires { NamesIndexed sheet.now ops.now index.now }
-    ensures { result ≡ found_of (find_name sheet.now name.now 0 ops.now) }
-{
-    let rows: &[[usize; 4]] = ops;
-    let h = hash_index::hash::bucket_of(name, NAME_BUCKETS);
-    let mut k = hash_index::chain::index_at(index, h);
-    while k < rows.len() {
-        let row = rows[k];
-        if crate::rows::has_name(sheet, name, row) {
-            return Found::At(k);
+// A sheet's text, its rows by opcode, and an index of all names.
+#[derive(Clone, Copy)]
+pub struct Names<'a> {
+    pub text: &'a [u8],
+    pub ops: &'a [[usize; 4]; 256],
+    pub index: &'a [u32],
+    pub ghost indexed: { NamesIndexed text.now ops.now index.now },
+}
+
+impl<'a> Names<'a> {
+    // The first opcode that has a name.
+    pub fn find(self, name: &[u8]) -> Option<usize>
+        ensures { result ≡ found_of (find_name self.entry.text.now name.now 0 self.entry.ops.now) }
+    {
+        let ops = self.ops;
+        let rows: &[[usize; 4]] = ops;
+        let h = hash_index::hash::bucket_of(name, NAME_BUCKETS);
+        let mut k = hash_index::chain::index_at(self.index, h);
+        while k < rows.len() {
+            let row = rows[k];
+            if crate::rows::has_name(self.text, name, row) {
+                return Some(k);
+            }
+            k = hash_index::chain::index_at(self.index, NAME_BUCKETS + k);
         }
-        k = hash_index::chain::index_at(index, NAME_BUCKETS + k);
+        None
     }
-    Found::Missing
 }

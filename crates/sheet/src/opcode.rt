@@ -8,23 +8,23 @@ ghost use Rattle.spec_sheet.specs.Sheet.OpsRead.{all_read};
 ghost use Rattle.sheet.specs.Sheets.{ops_of, sheet_answer, types_in, infos_in};
 
 use crate::rows::store_line;
-use crate::scan::Step;
+use answers::refusal::Refusal;
 
-// The opcode lines: one more than the largest opcode and the place behind them, or how many were before a malformed one.
+// Opcode lines that were read: one more than the largest opcode, and the place behind them.
 #[derive(Clone, Copy)]
-pub enum Ops {
-    All(usize, usize),
-    FaultAfter(usize),
+pub struct Ops {
+    pub above: usize,
+    pub end: usize,
 }
 
-// Reads `count` opcode lines into empty tables.
+// Reads `count` opcode lines into empty tables; where one is malformed, how many were before it.
 fn read_ops(
     s: &[u8],
     from: usize,
     count: usize,
     types: &mut [[u8; 8]; 256],
     ops: &mut [[usize; 4]; 256],
-) -> Ops
+) -> Result<Ops, usize>
     requires { (types.old ≡ no_type_rows) × (ops.old ≡ no_info_rows) }
     ensures value { result ≡ ops_of (ops_from count s.now from 0 []) }
     ensures types_after { (os : List Op) (b : ℕ) → ops_from count s.now from 0 [] ≡ all_read os b → (types.new ≡ type_rows os) × (ops.new ≡ info_rows os) }
@@ -32,17 +32,15 @@ fn read_ops(
     let mut filter = [0u64; 256];
     let mut at = from;
     let mut least: usize = 0;
-    let mut i: usize = 0;
-    while i < count {
-        let l = store_line(s, at, least, types, ops, &mut filter);
-        let Step::Next(code, b) = l else {
-            return Ops::FaultAfter(i);
-        };
-        at = b;
-        least = code as usize + 1;
-        i += 1;
+    for i in 0..count {
+        let line = store_line(s, at, least, types, ops, &mut filter).ok_or(i)?;
+        at = line.next;
+        least = line.code + 1;
     }
-    Ops::All(least, at)
+    Ok(Ops {
+        above: least,
+        end: at,
+    })
 }
 
 fn reset(types: &mut [[u8; 8]; 256], ops: &mut [[usize; 4]; 256])
@@ -62,43 +60,38 @@ pub struct SheetRead {
     pub end: usize,
 }
 
-// What reading a sheet answers: the sheet, or the malformed line, from 1.
-#[derive(Clone, Copy)]
-pub enum Sheet {
-    Read(SheetRead),
-    Malformed(usize),
-}
-
 // The sheet that stands at `at`, read into empty tables. A malformed one leaves both zero.
-fn sheet_into(s: &[u8], at: usize, types: &mut [[u8; 8]; 256], ops: &mut [[usize; 4]; 256]) -> Sheet
+fn sheet_into(
+    s: &[u8],
+    at: usize,
+    types: &mut [[u8; 8]; 256],
+    ops: &mut [[usize; 4]; 256],
+) -> Result<SheetRead, Refusal>
     requires { (types.old ≡ no_type_rows) × (ops.old ≡ no_info_rows) }
     ensures value { result ≡ sheet_answer (sheet_at s.now at) }
     ensures types_after { types.new ≡ types_in (sheet_at s.now at) }
     ensures ops_after { ops.new ≡ infos_in (sheet_at s.now at) }
 {
-    let v = crate::scan::keyed_at(s, at, b"version=", 4294967295, b"\n");
-    let Step::Next(version, a) = v else {
-        return Sheet::Malformed(1);
-    };
-    let n = crate::scan::keyed_at(s, a, b"count=", 256, b"\n");
-    let Step::Next(count, b) = n else {
-        return Sheet::Malformed(2);
-    };
-    if count == 0 {
-        return Sheet::Malformed(2);
+    let version = crate::scan::keyed_at(s, at, b"version=", 4294967295, b"\n").ok_or(
+        Refusal::Malformed(1),
+    )?;
+    let count = crate::scan::keyed_at(s, version.next, b"count=", 256, b"\n").ok_or(
+        Refusal::Malformed(2),
+    )?;
+    if count.value == 0 {
+        return Err(Refusal::Malformed(2));
     }
-    let lines = count as usize;
-    let o = read_ops(s, b, lines, types, ops);
-    match o {
-        Ops::All(above, end) => Sheet::Read(SheetRead {
-            version,
+    let lines = count.value as usize;
+    match read_ops(s, count.next, lines, types, ops) {
+        Ok(read) => Ok(SheetRead {
+            version: version.value,
             count: lines,
-            largest: above - 1,
-            end,
+            largest: read.above - 1,
+            end: read.end,
         }),
-        Ops::FaultAfter(k) => {
+        Err(k) => {
             reset(types, ops);
-            Sheet::Malformed(3 + k)
+            Err(Refusal::Malformed(3 + k))
         }
     }
 }
@@ -109,7 +102,7 @@ pub fn sheet_at(
     at: usize,
     types: &mut [[u8; 8]; 256],
     ops: &mut [[usize; 4]; 256],
-) -> Sheet
+) -> Result<SheetRead, Refusal>
     ensures value { result ≡ sheet_answer (sheet_at s.now at) }
     ensures types_after { types.new ≡ types_in (sheet_at s.now at) }
     ensures ops_after { ops.new ≡ infos_in (sheet_at s.now at) }
@@ -119,21 +112,20 @@ pub fn sheet_at(
 }
 
 // The sheet that is the whole text, read into empty tables, which an operation has just made.
-pub fn read_sheet(s: &[u8], types: &mut [[u8; 8]; 256], ops: &mut [[usize; 4]; 256]) -> Sheet
+pub fn read_sheet(
+    s: &[u8],
+    types: &mut [[u8; 8]; 256],
+    ops: &mut [[usize; 4]; 256],
+) -> Result<SheetRead, Refusal>
     requires { (types.old ≡ no_type_rows) × (ops.old ≡ no_info_rows) }
     ensures value { result ≡ sheet_answer (sheet_of s.now) }
     ensures types_after { types.new ≡ types_in (sheet_of s.now) }
     ensures ops_after { ops.new ≡ infos_in (sheet_of s.now) }
 {
-    let r = sheet_into(s, 0, types, ops);
-    match r {
-        Sheet::Read(sheet) => {
-            if sheet.end == s.len() {
-                return r;
-            }
-            reset(types, ops);
-            Sheet::Malformed(3 + sheet.count)
-        }
-        Sheet::Malformed(_) => r,
+    let sheet = sheet_into(s, 0, types, ops)?;
+    if sheet.end == s.len() {
+        return Ok(sheet);
     }
+    reset(types, ops);
+    Err(Refusal::Malformed(3 + sheet.count))
 }

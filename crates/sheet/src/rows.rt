@@ -8,9 +8,6 @@ ghost use Rattle.spec_sheet.specs.Sheet.{has_name, find_name, is_missing, may_fo
 ghost use Rattle.sheet.specs.NameFilter.{Filtered};
 ghost use Rattle.sheet.specs.Rows.{turn_of, types_stored, infos_stored};
 
-use crate::scan::Step;
-use slices::search::Found;
-
 // Where an opcode's row has its jump mark, and the start and length of its name. Its first number is the operand count.
 pub const JUMP_MARK: usize = 1;
 
@@ -32,7 +29,7 @@ pub fn has_name(s: &[u8], name: &[u8], row: [usize; 4]) -> bool
 }
 
 // The first opcode below `bound` that has a name.
-pub fn find_name(s: &[u8], name: &[u8], ops: &[[usize; 4]; 256], bound: usize) -> Found
+pub fn find_name(s: &[u8], name: &[u8], ops: &[[usize; 4]; 256], bound: usize) -> Option<usize>
     requires { bound ≤ 256 }
     ensures { result ≡ found_of (find_name s.now name.now 0 (take bound ops.now)) }
 {
@@ -40,11 +37,11 @@ pub fn find_name(s: &[u8], name: &[u8], ops: &[[usize; 4]; 256], bound: usize) -
     while k < bound {
         let row = ops[k];
         if has_name(s, name, row) {
-            return Found::At(k);
+            return Some(k);
         }
         k += 1;
     }
-    Found::Missing
+    None
 }
 
 // Whether no opcode below `least` has this name. Where its hash is not in the filter there is none; only where it is the
@@ -54,11 +51,7 @@ fn is_new(s: &[u8], name: &[u8], ops: &[[usize; 4]; 256], least: usize, seen: bo
     ensures { result ≡ is_missing (find_name s.now name.now 0 (take least ops.now)) }
 {
     if seen {
-        let f = find_name(s, name, ops, least);
-        return match f {
-            Found::At(_) => false,
-            Found::Missing => true,
-        };
+        return find_name(s, name, ops, least).is_none();
     }
     true
 }
@@ -95,7 +88,14 @@ fn store_op(
     false
 }
 
-// Reads one opcode line and stores its rows, where it may follow those below `least`: the opcode and the place behind it.
+// An opcode line that was stored: its opcode and the place behind it.
+#[derive(Clone, Copy)]
+pub struct StoredLine {
+    pub code: usize,
+    pub next: usize,
+}
+
+// Reads one opcode line and stores its rows, where it may follow those below `least`.
 pub fn store_line(
     s: &[u8],
     at: usize,
@@ -103,22 +103,19 @@ pub fn store_line(
     types: &mut [[u8; 8]; 256],
     ops: &mut [[usize; 4]; 256],
     filter: &mut [u64; 256],
-) -> Step
+) -> Option<StoredLine>
     requires { (least ≤ 256) × Filtered s.now filter.old ops.old }
     ensures value { result ≡ turn_of (accepted s.now least ops.old (line_at s.now at)) }
     ensures types_after { types.new ≡ types_stored (accepted s.now least ops.old (line_at s.now at)) types.old }
     ensures ops_after { ops.new ≡ infos_stored (accepted s.now least ops.old (line_at s.now at)) ops.old }
     ensures filtered { Filtered s.now filter.new ops.new }
 {
-    let l = crate::line::line_at(s, at);
-    if l.ok {
-        let code = l.code;
-        let info = l.info;
-        let row = l.row;
-        if store_op(s, least, code, row, info, types, ops, filter) {
-            return Step::Next(code as u64, l.next);
-        }
-        return Step::Off;
+    let line = crate::line::line_at(s, at)?;
+    if store_op(s, least, line.code, line.row, line.info, types, ops, filter) {
+        return Some(StoredLine {
+            code: line.code,
+            next: line.next,
+        });
     }
-    Step::Off
+    None
 }

@@ -1,18 +1,18 @@
-// Readings at a place of a text: each answers a value and the place behind it, or that the text is not of the form.
+// Readings at a place of a text: each answers a value and the place behind it, or nothing where the text is not of the form.
 ghost use Rattle.std.specs.Prelude.{◌≡◌, ◌+◌, ◌-◌, ◌≤◌, length, drop, get_or, eqb, ltb, leb};
 ghost use Rattle.lists.specs.Scan.{run, opens};
 ghost use Rattle.lists.specs.Text.{text};
 ghost use Rattle.spec_sheet.specs.Scan.{literal_at, is_upper, is_name_byte, number_at, keyed_at, may_be_name, name_at, type_at};
-ghost use Rattle.sheet.specs.Answers.{step_of, is_word_byte};
+ghost use Rattle.sheet.specs.Answers.{place_of, step_of, is_word_byte};
 ghost use Rattle.lists.specs.Choice.{both};
 
-use numbers::parse::Number;
 use slices::compare::is_within;
 
+// A value that was read, and the place behind it.
 #[derive(Clone, Copy)]
-pub enum Step {
-    Next(u64, usize),
-    Off,
+pub struct Reading {
+    pub value: u64,
+    pub next: usize,
 }
 
 // Whether the byte at `at` is b; behind the end every byte counts as 0.
@@ -22,14 +22,14 @@ pub fn byte_is(s: &[u8], at: usize, b: u8) -> bool
     if at < s.len() { s[at] == b } else { 0 == b }
 }
 
-// Exactly the bytes of p.
-pub fn literal_at(s: &[u8], at: usize, p: &[u8]) -> Step
-    ensures { result ≡ step_of (literal_at p.now s.now at) }
+// The place behind exactly the bytes of p.
+pub fn literal_at(s: &[u8], at: usize, p: &[u8]) -> Option<usize>
+    ensures { result ≡ place_of (literal_at p.now s.now at) }
 {
     if slices::compare::opens_at(s, at, p) {
-        return Step::Next(0, at + p.len());
+        return Some(at + p.len());
     }
-    Step::Off
+    None
 }
 
 pub fn is_name_byte(b: u8) -> bool
@@ -101,38 +101,32 @@ fn is_padded(s: &[u8], at: usize, k: usize) -> bool
 }
 
 // A decimal number up to `most` without leading zeros.
-pub fn number_at(s: &[u8], at: usize, most: u64) -> Step
+pub fn number_at(s: &[u8], at: usize, most: u64) -> Option<Reading>
     ensures { result ≡ step_of (number_at most s.now at) }
 {
     let k = count_word(s, at, false);
     if is_padded(s, at, k) {
-        return Step::Off;
+        return None;
     }
     let digits = slices::part::part_of(s, at, k);
-    let value = numbers::parse::unsigned_value(digits, 0, 10, most);
-    match value {
-        Number::Is(n) => Step::Next(n, at + k),
-        Number::Bad => Step::Off,
-    }
+    let value = numbers::parse::unsigned_value(digits, 0, 10, most)?;
+    Some(Reading {
+        value,
+        next: at + k,
+    })
 }
 
 // A number up to `most` between a key and what has to stand behind it.
-pub fn keyed_at(s: &[u8], at: usize, key: &[u8], most: u64, tail: &[u8]) -> Step
+pub fn keyed_at(s: &[u8], at: usize, key: &[u8], most: u64, tail: &[u8]) -> Option<Reading>
     ensures { result ≡ step_of (keyed_at key.now most tail.now s.now at) }
 {
-    let k = literal_at(s, at, key);
-    let Step::Next(_, a) = k else {
-        return k;
-    };
-    let v = number_at(s, a, most);
-    let Step::Next(value, b) = v else {
-        return v;
-    };
-    let e = literal_at(s, b, tail);
-    let Step::Next(_, c) = e else {
-        return e;
-    };
-    Step::Next(value, c)
+    let start = literal_at(s, at, key)?;
+    let number = number_at(s, start, most)?;
+    let next = literal_at(s, number.next, tail)?;
+    Some(Reading {
+        value: number.value,
+        next,
+    })
 }
 
 // Whether an upper-case letter stands at `at`.
@@ -170,14 +164,17 @@ fn may_be_name(s: &[u8], at: usize, k: usize) -> bool
 }
 
 // An opcode's name: its length.
-pub fn name_at(s: &[u8], at: usize) -> Step
+pub fn name_at(s: &[u8], at: usize) -> Option<Reading>
     ensures { result ≡ step_of (name_at s.now at) }
 {
     let k = count_name(s, at);
     if may_be_name(s, at, k) {
-        return Step::Next(k as u64, at + k);
+        return Some(Reading {
+            value: k as u64,
+            next: at + k,
+        });
     }
-    Step::Off
+    None
 }
 
 // Whether n bytes are left. The difference does not depend on `at`, so that a loop makes it once.
@@ -192,7 +189,7 @@ pub(crate) fn has_left(s: &[u8], at: usize, n: usize) -> bool
 
 // The name of an operand type: its code. Each name has four bytes or more, and comparing them shows whether they are
 // letters and digits, so the word is counted from the fifth on.
-fn counted_type(s: &[u8], at: usize) -> Step
+fn counted_type(s: &[u8], at: usize) -> Option<Reading>
     ensures { result ≡ step_of (type_at s.now at) }
 {
     if has_left(s, at, 4) {
@@ -200,22 +197,24 @@ fn counted_type(s: &[u8], at: usize) -> Step
         let end = at + k;
         let code = crate::operand_types::type_code(&s[at..end]);
         if code == 0 {
-            return Step::Off;
+            return None;
         }
-        return Step::Next(code as u64, end);
+        return Some(Reading {
+            value: code as u64,
+            next: end,
+        });
     }
-    Step::Off
+    None
 }
 
 // The same, first by one word of eight bytes: the names of a well-formed sheet are all found so, at about half the cost, but for
 // those at its very end.
-pub fn type_at(s: &[u8], at: usize) -> Step
+pub fn type_at(s: &[u8], at: usize) -> Option<Reading>
     ensures { result ≡ step_of (type_at s.now at) }
 {
     if has_left(s, at, 8) {
-        let q = crate::type_word::quick_type(s, at);
-        if let Step::Next(_, _) = q {
-            return q;
+        if let Some(reading) = crate::type_word::quick_type(s, at) {
+            return Some(reading);
         }
     }
     counted_type(s, at)

@@ -1,11 +1,10 @@
 // An operand type's name by one word: the eight bytes that open with it.
-ghost use Rattle.std.specs.Prelude.{◌≡◌, ℕ, ◌+◌, ◌%◌, ◌≤◌, true, false, length};
+ghost use Rattle.std.specs.Prelude.{◌≡◌, ◌+◌, ◌%◌, ◌≤◌, true, false, length, IfSome};
 ghost use Rattle.spec_sheet.specs.Scan.{is_name_byte, type_at};
 ghost use Rattle.spec_sheet.specs.Scan.Step.{next};
 ghost use Rattle.sheet.specs.TypeWords.{Names, step_to};
-ghost use Rattle.sheet.specs.declared.scan.Step.TheVariants.{Next};
 
-use crate::scan::Step;
+use crate::scan::Reading;
 
 // Whether the lowest byte stands before all letters, digits and underscores, as the comma or line end behind a type does.
 fn ends_type(v: u64) -> bool
@@ -64,20 +63,23 @@ fn code_of_seven(w: u64) -> u8
 }
 
 // A code and the place behind its name, where there is one.
-fn step_to(code: u8, place: usize) -> Step
-    ensures { result ≡ step_to code place }
+fn step_to(code: u8, next: usize) -> Option<Reading>
+    ensures { result ≡ step_to code next }
 {
     if code == 0 {
-        return Step::Off;
+        return None;
     }
-    Step::Next(code as u64, place)
+    Some(Reading {
+        value: code as u64,
+        next,
+    })
 }
 
 // The name of an operand type, where a byte below `0` stands behind it, as a comma or a line end: what it answers is what `type_at`
 // answers, but it may answer nothing where that does.
-pub(crate) fn quick_type(s: &[u8], at: usize) -> Step
+pub(crate) fn quick_type(s: &[u8], at: usize) -> Option<Reading>
     requires { at + 8 ≤ length s.now }
-    ensures { (code place : ℕ) → result ≡ Next code place → type_at s.now at ≡ next code place }
+    ensures { IfSome result (λ r. type_at s.now at ≡ next r.value r.next) }
 {
     let w = numbers::little_endian::read_of_eight(s, at, 8);
     if ends_type(w / 0x1_0000_0000) {
@@ -92,5 +94,5 @@ pub(crate) fn quick_type(s: &[u8], at: usize) -> Step
     if ends_type(w / 0x100_0000_0000_0000) {
         return step_to(code_of_seven(w % 0x100_0000_0000_0000), at + 7);
     }
-    Step::Off
+    None
 }

@@ -5,9 +5,9 @@ use Prim.Native.Nat.{◌+◌}
 use mathlib.Core.Path.{sym, ◌∙◌, ap}
 use Rattle.sheet.proofs.line.jump_at.Goals as goal
 
-pub quick_jump-q-requires : goal.quick_jump-q-requires
-quick_jump-q-requires c = let a = c.args in leb-true (a.at + 16) (length a.s.now) (sym c.has_left.ensures ∙ c.if-has_left.true)
+pub quick_jump-requires : goal.quick_jump-requires
+quick_jump-requires c = let a = c.args in leb-true (a.at + 16) (length a.s.now) (sym c.has_left.ensures ∙ c.if-has_left.true)
 
-pub returns-in-Next : goal.returns-in-Next
+pub returns-in-Some : goal.returns-in-Some
 unfolding step_of
-returns-in-Next c = c.in-Next.is ∙ sym (ap step_of (c.quick_jump-q.ensures _ _ c.in-Next.is))
+returns-in-Some c = sym (ap step_of c.in-Some.ensures)

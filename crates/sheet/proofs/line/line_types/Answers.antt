@@ -1,23 +1,23 @@
-use Rattle.sheet.proofs.LineLaws.{types_off, end_off, line_whole}
-use Rattle.sheet.proofs.AnswerLaws.{was_next, was_off}
+use mathlib.Core.Path.{sym, ◌∙◌}
+use Rattle.spec_sheet.specs.Scan.{after}
+use Rattle.spec_sheet.specs.Line.{line_types}
 use Rattle.sheet.specs.Lines.{line_of}
-use mathlib.Core.Path.{sym, ◌∙◌, ap}
+use Rattle.sheet.proofs.AnswerLaws.{was_place, was_no_place}
+use Rattle.sheet.proofs.LineLaws.{was_types, was_no_types, line_whole}
 use Rattle.sheet.proofs.line.line_types.Goals as goal
 
-pub returns-in_default : goal.returns-in_default
-returns-in_default c =
-    let a = c.args in
-    let t = c.types_at-t in
-    c.no_line.ensures ∙ ap line_of (sym (end_off a.s.now a.code a.start a.size a.jump _ t.result t.ensures c.if-t.true (was_off _ (sym c.literal_at-e.ensures ∙ c.in_default.is))))
+pub returns-in_err-types : goal.returns-in_err-types
+unfolding line_types line_of
+returns-in_err-types c = rw (was_no_types _ (sym c.types_at.ensures ∙ c.in_err-types.was)) c.from_residual.ensures
 
-pub returns-then-t : goal.returns-then-t
-returns-then-t c =
-    let a = c.args in
-    let t = c.types_at-t in
-    line_whole a.s.now a.code a.start a.size a.jump _ t.result t.ensures c.if-t.true (was_next _ (sym c.literal_at-e.ensures ∙ c.in-Next.is))
+pub returns-in_err-next : goal.returns-in_err-next
+unfolding line_types after line_of
+returns-in_err-next c =
+    let t = was_types _ (sym c.types_at.ensures ∙ c.in_ok-types.was) in
+    rw (t.is_types, was_no_place _ (sym c.literal_at.ensures ∙ c.in_err-next.was)) c.from_residual-in_err-next.ensures
 
 pub returns : goal.returns
 returns c =
     let a = c.args in
-    let t = c.types_at-t in
-    c.no_line-2.ensures ∙ ap line_of (sym (types_off a.s.now a.code a.start a.size a.jump _ t.result t.ensures c.if-t.false))
+    let e = was_place _ (sym c.literal_at.ensures ∙ c.in_ok-next.was) in
+    line_whole a.s.now a.head.code a.head.start a.head.size a.jump _ _ (was_types _ (sym c.types_at.ensures ∙ c.in_ok-types.was)) e.is_next

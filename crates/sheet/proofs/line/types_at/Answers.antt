@@ -4,7 +4,7 @@ use Rattle.lists.proofs.Parts.{inside}
 use borrow.Author.Tests.{eqb-true}
 use lib.ListN.{get_or}
 use native.Mathlib.Omega.{arith}
-use mathlib.Core.Path.{sym, ◌∙◌}
+use mathlib.Core.Path.{sym, ◌∙◌, refl}
 use Rattle.sheet.proofs.line.types_at.Goals as goal
 
 pub overflow_add-result : goal.overflow_add-result
@@ -15,7 +15,7 @@ overflow_add-result c =
 
 pub returns-then-byte_is : goal.returns-then-byte_is
 unfolding types_at types_of
-returns-then-byte_is c = rw (sym c.byte_is.ensures ∙ c.if-byte_is.true)
+returns-then-byte_is c = rw (sym c.byte_is.ensures ∙ c.if-byte_is.true) refl
 
 pub returns : goal.returns
 unfolding types_at

@@ -1,5 +1,4 @@
 use Rattle.lists.specs.Scan.{Bytes}
-use Rattle.sheet.proofs.AnswerLaws.{as_told, none_told}
 use Rattle.sheet.proofs.KeyedLaws.{keyed_read}
 use Rattle.sheet.proofs.WordLaws.{word_opens, literal_there}
 use Rattle.spec_numbers.specs.LittleEndian.{le_bytes}
@@ -8,28 +7,19 @@ use native.Mathlib.Omega.{arith}
 use mathlib.Core.Path.{refl}
 use Rattle.sheet.proofs.line_word.quick_op.Goals as goal
 
-pub read_of_eight-requires-in-Next : goal.read_of_eight-requires-in-Next
-read_of_eight-requires-in-Next c = omega (arith, c.requires, (c.short_number-n.ensures _ _ c.in-Next.is).1)
+pub read_of_eight-requires-then-read_of_eight-eq4026479 : goal.read_of_eight-requires-then-read_of_eight-eq4026479
+read_of_eight-requires-then-read_of_eight-eq4026479 c = (omega (arith, c.requires, c.in_ok-number.ensures.1), omega arith, omega arith)
 
 pub overflow_add-result : goal.overflow_add-result
-overflow_add-result c = omega (arith, c.requires, (c.short_number-n.ensures _ _ c.in-Next.is).1)
+overflow_add-result c = omega (arith, c.requires, c.in_ok-number.ensures.1)
 
 pub returns-then-read_of_eight-eq67505836092960 : goal.returns-then-read_of_eight-eq67505836092960
 unfolding text le_bytes
-returns-then-read_of_eight-eq67505836092960 c v b e =
+returns-then-read_of_eight-eq67505836092960 c =
     let s = c.args.s.now in
     let at = c.args.at in
     let bs : Bytes s = λ i. (c.shared_slice_known-1.given i).fits in
-    let m = c.short_number-n.ensures _ _ c.in-Next.is in
+    let n = c.in_ok-number in
     let k = literal_there (text "op=") s at (word_opens s at 3 bs (omega (arith, c.requires)) (omega arith) (text "op=") c.read_of_eight.result 0x3d706f c.read_of_eight.ensures c.if-read_of_eight-eq4026479.true refl) in
-    let t = literal_there (text " name=") s c.in-Next.b (word_opens s c.in-Next.b 6 bs (omega (arith, c.requires, m.1)) (omega arith) (text " name=") c.read_of_eight-in-Next.result 0x3d656d616e20 c.read_of_eight-in-Next.ensures c.if-read_of_eight-eq67505836092960.true refl) in
-    as_told _ (keyed_read (text "op=") 255 (text " name=") s at k m.0 t) e
-
-pub returns-else-read_of_eight-eq67505836092960 : goal.returns-else-read_of_eight-eq67505836092960
-returns-else-read_of_eight-eq67505836092960 c v b e = none_told e
-
-pub returns-in_default : goal.returns-in_default
-returns-in_default c v b e = none_told e
-
-pub returns-else-read_of_eight-eq4026479 : goal.returns-else-read_of_eight-eq4026479
-returns-else-read_of_eight-eq4026479 c v b e = none_told e
+    let t = literal_there (text " name=") s n.number.next (word_opens s n.number.next 6 bs (omega (arith, c.requires, n.ensures.1)) (omega arith) (text " name=") c.read_of_eight-then-read_of_eight-eq4026479.result 0x3d656d616e20 c.read_of_eight-then-read_of_eight-eq4026479.ensures c.if-read_of_eight-eq67505836092960.true refl) in
+    keyed_read (text "op=") 255 (text " name=") s at k n.ensures.0 t

@@ -1,5 +1,4 @@
-use Rattle.sheet.proofs.ShortNumbers.{three_read, short_told}
-use Rattle.sheet.proofs.AnswerLaws.{none_told}
+use Rattle.sheet.proofs.ShortNumbers.{worth, three_read}
 use Rattle.lists.proofs.Tests.{within_least}
 use Prim.Native.Nat.{◌+◌}
 use lib.ListN.{get_or}
@@ -17,22 +16,9 @@ pub overflow_sub-n-then-is_within-3-2 : goal.overflow_sub-n-then-is_within-3-2
 overflow_sub-n-then-is_within-3-2 c = let a = c.args in omega (arith, c.wide_byte-then-is_within-3-2.ensures, within_least 48 57 (get_or a.s.now (a.at + 2) 0) (sym c.is_within-then-is_within-2.ensures ∙ c.if-is_within-3.true))
 
 pub returns-then-n-le255 : goal.returns-then-n-le255
-returns-then-n-le255 c v b e =
+returns-then-n-le255 c =
     let w = sym c.is_within.ensures ∙ c.if-is_within.true in
     let d = sym c.is_within-then-is_within.ensures ∙ c.if-is_within-2.true in
     let g = sym c.is_within-then-is_within-2.ensures ∙ c.if-is_within-3.true in
-    short_told c.args.s.now c.args.at _ _ _ v b
-    (three_read c.args.s.now c.args.at c.requires.0 c.requires.1 w d g (omega (arith, c.if-n-le255.true, c.wide_byte.ensures, c.wide_byte-then-is_within-3.ensures, c.wide_byte-then-is_within-3-2.ensures)))
-    (omega (arith, c.wide_byte.ensures, c.wide_byte-then-is_within-3.ensures, c.wide_byte-then-is_within-3-2.ensures)) (omega arith) e
-
-pub returns-else-n-le255 : goal.returns-else-n-le255
-returns-else-n-le255 c v b e = none_told e
-
-pub returns-else-is_within-3 : goal.returns-else-is_within-3
-returns-else-is_within-3 c v b e = none_told e
-
-pub returns-else-is_within-2 : goal.returns-else-is_within-2
-returns-else-is_within-2 c v b e = none_told e
-
-pub returns-else-is_within : goal.returns-else-is_within
-returns-else-is_within c v b e = none_told e
+    let e = three_read c.args.s.now c.args.at c.requires.0 c.requires.1 w d g (omega (arith, c.if-n-le255.true, c.wide_byte.ensures, c.wide_byte-then-is_within-3.ensures, c.wide_byte-then-is_within-3-2.ensures)) in
+    (worth c.args.s.now c.args.at _ _ _ e (omega (arith, c.wide_byte.ensures, c.wide_byte-then-is_within-3.ensures, c.wide_byte-then-is_within-3-2.ensures)), omega arith)

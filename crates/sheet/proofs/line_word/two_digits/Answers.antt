@@ -3,8 +3,7 @@ use lib.ListN.{get_or}
 use mathlib.Core.Path.{sym, ◌∙◌}
 use native.Mathlib.Omega.{arith}
 use Rattle.lists.proofs.Tests.{within_least}
-use Rattle.sheet.proofs.AnswerLaws.{none_told}
-use Rattle.sheet.proofs.ShortNumbers.{two_read, short_told}
+use Rattle.sheet.proofs.ShortNumbers.{worth, two_read}
 use Rattle.sheet.proofs.line_word.two_digits.Goals as goal
 
 pub overflow_sub-result : goal.overflow_sub-result
@@ -14,13 +13,7 @@ pub overflow_sub-result-then-is_within-2 : goal.overflow_sub-result-then-is_with
 overflow_sub-result-then-is_within-2 c = let a = c.args in omega (arith, c.wide_byte-then-is_within-2.ensures, within_least 48 57 (get_or a.s.now (a.at + 1) 0) (sym c.is_within-then-is_within.ensures ∙ c.if-is_within-2.true))
 
 pub returns-then-is_within-2 : goal.returns-then-is_within-2
-returns-then-is_within-2 c v b e =
+returns-then-is_within-2 c =
     let w = sym c.is_within.ensures ∙ c.if-is_within.true in
     let d = sym c.is_within-then-is_within.ensures ∙ c.if-is_within-2.true in
-    short_told c.args.s.now c.args.at _ _ _ v b (two_read c.args.s.now c.args.at c.requires.0 c.requires.1 w d) (omega (arith, c.wide_byte.ensures, c.wide_byte-then-is_within-2.ensures)) (omega arith) e
-
-pub returns-else-is_within-2 : goal.returns-else-is_within-2
-returns-else-is_within-2 c v b e = none_told e
-
-pub returns-else-is_within : goal.returns-else-is_within
-returns-else-is_within c v b e = none_told e
+    (worth c.args.s.now c.args.at _ _ _ (two_read c.args.s.now c.args.at c.requires.0 c.requires.1 w d) (omega (arith, c.wide_byte.ensures, c.wide_byte-then-is_within-2.ensures)), omega arith)

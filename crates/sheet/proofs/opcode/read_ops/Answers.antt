@@ -3,9 +3,9 @@ use mathlib.Core.Path.{sym, ◌∙◌, ap}
 use native.Mathlib.Omega.{arith}
 use Rattle.sheet.specs.Sheets.{ops_of}
 use Rattle.sheet.proofs.FilterLaws.{none_marked}
+use Rattle.std.specs.Prelude.{Err}
+use Rattle.sheet.proofs.AnswerLaws.{or_value, or_error, is_error}
 use Rattle.sheet.proofs.OpsLoop.{start, ended, stopped, small, turn, not_all, tables}
-use Prim.Native.Nat.{ℕ}
-use Rattle.sheet.specs.declared.opcode.Ops.TheVariants.{All}
 use Rattle.sheet.proofs.opcode.read_ops.Goals as goal
 
 pub loop-i-init : goal.loop-i-init
@@ -13,30 +13,30 @@ loop-i-init c =
     let p = c.requires in
     (start _ _ _ _ _ p.0 p.1, rw p.1 (none_marked _ _ refl))
 
-pub store_line-l-requires : goal.store_line-l-requires
-store_line-l-requires c = let i = c.loop-i.invariant in (i.0.bound, i.1)
+pub store_line-requires : goal.store_line-requires
+store_line-requires c = let i = c.loop-i.invariant in (i.0.bound, i.1)
 
-pub returns-in_default : goal.returns-in_default
+pub returns-in_err-line : goal.returns-in_err-line
 unfolding ops_of
-returns-in_default c =
-    let l = c.loop-i in
-    let e = stopped _ _ _ _ _ _ _ _ l.invariant.0 c.loop-i-test.true (sym c.store_line-l.ensures.value ∙ c.in_default.is) in
-    record { value = sym (ap ops_of e); types_after = (λ os b f. not_all _ _ os b e f) }
+returns-in_err-line c =
+    let w = or_error _ _ c.ok_or.ensures.value c.in_err-line.was in
+    let e = stopped _ _ _ _ _ _ _ _ c.loop-i.invariant.0 c.loop-i-test.true (sym c.store_line.ensures.value ∙ w.0) in
+    record { value = is_error _ c.from_residual.ensures.1 ∙ (ap Err w.1 ∙ sym (ap ops_of e)); types_after = (λ os b f. not_all _ _ os b e f) }
 
 pub overflow_add-least : goal.overflow_add-least
 overflow_add-least c =
-    let l = c.loop-i in
-    omega (arith, small _ _ _ _ _ _ _ _ l.invariant.0 c.loop-i-test.true _ _ (sym c.store_line-l.ensures.value ∙ c.in-Next.is))
+    let w = or_value _ _ c.ok_or.ensures.value c.in_ok-line.was in
+    omega (arith, small _ _ _ _ _ _ _ _ c.loop-i.invariant.0 c.loop-i-test.true (sym c.store_line.ensures.value ∙ w))
 
 pub loop-i-preserved : goal.loop-i-preserved
 loop-i-preserved c =
-    let l = c.loop-i in
-    let w = c.store_line-l.ensures in
-    (turn _ _ _ _ _ _ _ _ l.invariant.0 c.loop-i-test.true _ _ (sym w.value ∙ c.in-Next.is) _ _ w.types_after w.ops_after, w.filtered)
+    let w = or_value _ _ c.ok_or.ensures.value c.in_ok-line.was in
+    let t = c.store_line.ensures in
+    (turn _ _ _ _ _ _ _ _ c.loop-i.invariant.0 c.loop-i-test.true (sym t.value ∙ w) _ _ t.types_after t.ops_after, t.filtered)
 
 pub returns : goal.returns
 unfolding ops_of
 returns c =
-    let l = c.loop-i in
-    let e = ended _ _ _ _ _ _ _ _ l.invariant.0 c.loop-i-test.false in
-    record { value = ap (λ (k : ℕ). All k l.at) l.invariant.0.least_is ∙ sym (ap ops_of e); types_after = (λ os b f. tables _ _ _ l.invariant.0.seen os _ b e l.invariant.0.type_rows_lem l.invariant.0.info_rows_lem f) }
+    let i = c.loop-i.invariant.0 in
+    let e = ended _ _ _ _ _ _ _ _ i c.loop-i-test.false in
+    record { value = rw (e, i.least_is) refl; types_after = (λ os b f. tables _ _ _ i.seen os _ b e i.types_are i.infos_are f) }

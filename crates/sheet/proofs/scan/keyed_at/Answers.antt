@@ -1,17 +1,38 @@
-use Rattle.sheet.proofs.KeyedLaws.{no_key, no_number, no_tail, keyed_whole}
+use Rattle.sheet.specs.Answers.{step_of}
+use Rattle.sheet.proofs.AnswerLaws.{was_next, was_off, was_place, was_no_place}
+use Rattle.sheet.proofs.KeyedLaws.{no_key, no_number, no_tail, keyed_read}
+use mathlib.Core.Path.{sym, ◌∙◌, ap}
 use Rattle.sheet.proofs.scan.keyed_at.Goals as goal
 
-pub returns-in_default : goal.returns-in_default
-returns-in_default c = no_key _ _ _ _ _ _ c.literal_at-k.ensures c.in_default.is
+pub returns-in_err-start : goal.returns-in_err-start
+unfolding step_of
+returns-in_err-start c =
+    let a = c.args in
+    let k = was_no_place _ (sym c.literal_at.ensures ∙ c.in_err-start.was) in
+    c.from_residual.ensures ∙ sym (ap step_of (no_key a.key.now a.most a.tail.now a.s.now a.at k))
 
-pub returns-in_default-v : goal.returns-in_default-v
-returns-in_default-v c =
-    no_number _ _ _ _ _ _ c.literal_at-k.ensures c.in-Next.is _ c.number_at-v.ensures c.in_default-v.is
+pub returns-in_err-number : goal.returns-in_err-number
+unfolding step_of
+returns-in_err-number c =
+    let a = c.args in
+    let k = was_place _ (sym c.literal_at.ensures ∙ c.in_ok-start.was) in
+    let n = was_off _ (sym c.number_at.ensures ∙ c.in_err-number.was) in
+    c.from_residual-in_err-number.ensures ∙ sym (ap step_of (no_number a.key.now a.most a.tail.now a.s.now a.at k.is_next n))
 
-pub returns-in_default-e : goal.returns-in_default-e
-returns-in_default-e c =
-    no_tail _ _ _ _ _ _ c.literal_at-k.ensures c.in-Next.is _ c.number_at-v.ensures c.in-Next-v.is _ c.literal_at-e.ensures c.in_default-e.is
+pub returns-in_err-next : goal.returns-in_err-next
+unfolding step_of
+returns-in_err-next c =
+    let a = c.args in
+    let k = was_place _ (sym c.literal_at.ensures ∙ c.in_ok-start.was) in
+    let n = was_next _ (sym c.number_at.ensures ∙ c.in_ok-number.was) in
+    let t = was_no_place _ (sym c.literal_at-2.ensures ∙ c.in_err-next.was) in
+    c.from_residual-in_err-next.ensures ∙ sym (ap step_of (no_tail a.key.now a.most a.tail.now a.s.now a.at k.is_next n t))
 
 pub returns : goal.returns
+unfolding step_of
 returns c =
-    keyed_whole _ _ _ _ _ _ c.literal_at-k.ensures c.in-Next.is _ c.number_at-v.ensures c.in-Next-v.is _ c.literal_at-e.ensures c.in-Next-e.is
+    let a = c.args in
+    let k = was_place _ (sym c.literal_at.ensures ∙ c.in_ok-start.was) in
+    let n = was_next _ (sym c.number_at.ensures ∙ c.in_ok-number.was) in
+    let t = was_place _ (sym c.literal_at-2.ensures ∙ c.in_ok-next.was) in
+    sym (ap step_of (keyed_read a.key.now a.most a.tail.now a.s.now a.at k.is_next n t.is_next))

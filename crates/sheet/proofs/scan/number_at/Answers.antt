@@ -11,16 +11,16 @@ returns-then-is_padded c =
     let a = c.args in
     sym (ap step_of (number_padded a.s.now a.at c.count_word-k.result a.most c.count_word-k.ensures.0 (sym c.is_padded.ensures ∙ c.if-is_padded.true)))
 
-pub returns-in-Is : goal.returns-in-Is
+pub returns-in_err-value : goal.returns-in_err-value
 unfolding step_of
-returns-in-Is c =
+returns-in_err-value c =
     let a = c.args in
-    let v = ap (unsigned_value 10 a.most) (sym c.part_of-digits.ensures) ∙ number_is _ _ (sym c.unsigned_value-value.ensures ∙ c.in-Is.is) in
-    sym (ap step_of (number_value a.s.now a.at c.count_word-k.result a.most _ c.count_word-k.ensures.0 (sym c.is_padded.ensures ∙ c.if-is_padded.false) v))
+    let v = ap (unsigned_value 10 a.most) (sym c.part_of-digits.ensures) ∙ number_bad _ (sym c.unsigned_value.ensures ∙ c.in_err-value.was) in
+    c.from_residual.ensures ∙ sym (ap step_of (number_none a.s.now a.at c.count_word-k.result a.most c.count_word-k.ensures.0 (sym c.is_padded.ensures ∙ c.if-is_padded.false) v))
 
-pub returns-in-Bad : goal.returns-in-Bad
+pub returns : goal.returns
 unfolding step_of
-returns-in-Bad c =
+returns c =
     let a = c.args in
-    let v = ap (unsigned_value 10 a.most) (sym c.part_of-digits.ensures) ∙ number_bad _ (sym c.unsigned_value-value.ensures ∙ c.in-Bad.is) in
-    sym (ap step_of (number_none a.s.now a.at c.count_word-k.result a.most c.count_word-k.ensures.0 (sym c.is_padded.ensures ∙ c.if-is_padded.false) v))
+    let v = ap (unsigned_value 10 a.most) (sym c.part_of-digits.ensures) ∙ number_is _ _ (sym c.unsigned_value.ensures ∙ c.in_ok-value.was) in
+    sym (ap step_of (number_value a.s.now a.at c.count_word-k.result a.most _ c.count_word-k.ensures.0 (sym c.is_padded.ensures ∙ c.if-is_padded.false) v))

@@ -1,6 +1,5 @@
 pub mod ReaderRead
 pub mod ReaderAbove
-pub mod ReaderLaws
 pub mod ReaderTrials
 pub mod ReadLaws
 pub mod ValueLaws

@@ -1,29 +1,24 @@
 -- An operand by the read of its kind. Assumes nothing.
-use mathlib.Core.Path.{◌≡◌, refl, ap, ◌∙◌}
-use mathlib.Core.Bool.{true}
-use mathlib.Core.List.{List}
-use Prim.Native.Nat.{ℕ, ◌+◌, ◌%◌, ◌^◌, ◌≤◌, ◌<◌}
+use Rattle.std.proofs.Common.{◌≡◌, ℕ, ◌+◌, ◌^◌, ◌≤◌, ◌<◌, List, ℤ, Some, refl, sym, ap, ◌∙◌, arith, length, get_or, eqb, le-leb, eq-eqb}
 use native.Mathlib.Nat.{mod-eq_of_lt}
-use native.Mathlib.Omega.{arith}
-use lib.Dec.{eqb}
-use lib.ListN.{length, get_or, get_or-eq_default}
-use borrow.Author.Tests.{le-leb, eq-eqb, eqb-true}
+use lib.ListN.{get_or-eq_default}
+use borrow.Author.Tests.{eqb-true}
+use Rattle.lists.specs.Choice.{pick}
 use Rattle.lists.specs.Scan.{part}
 use Rattle.lists.proofs.Tests.{by_leb}
+use Rattle.std.specs.Float.Ieee.{Float, of_bits}
+use Rattle.std.specs.Float.{binary64}
 use Rattle.spec_numbers.specs.LittleEndian.{le}
+use Rattle.spec_numbers.specs.TwosComplement.{signed}
 use Rattle.spec_sheet.specs.Types.{width_of, widths, kind_of, kinds}
 use Rattle.spec_sheet.proofs.TypeLaws.{below, implies, by_codes, kind_widths, kind_width}
 use Rattle.spec_body.proofs.ReencodeLaws.{part_below}
-use Rattle.operand.specs.declared.reader.ReadU8.{ReadU8}
-use Rattle.operand.specs.declared.reader.ReadU16.{ReadU16}
-use Rattle.operand.specs.declared.reader.ReadU32.{ReadU32}
-use Rattle.operand.specs.declared.reader.ReadI8.{ReadI8}
-use Rattle.operand.specs.declared.reader.ReadI32.{ReadI32}
-use Rattle.operand.specs.declared.reader.ReadF64.{ReadF64}
+use Rattle.operand.specs.declared.reader.Read.{Read}
 use Rattle.operand.specs.declared.value.Operand.{Operand}
+use Rattle.operand.specs.declared.value.OperandValue.{OperandValue}
 use Rattle.operand.specs.declared.value.OperandValue.TheVariants.{U8, U16, U32, I8, I32, F64}
-use Rattle.operand.specs.Reader.{number_at, u8_at, u16_at, u32_at, i8_at, i32_at, f64_at}
-use Rattle.operand.specs.Value.{operand_at}
+use Rattle.operand.specs.Reader.{read_at}
+use Rattle.operand.specs.Value.{value_of, operand_at}
 
 -- a code that takes no bytes is decoded to a U8
 no_kind : (code : ℕ) → width_of code ≡ 0 → kind_of code ≡ 0
@@ -41,50 +36,55 @@ kind_bytes code n =
     (λ h. kind_width code (by_leb 1 code (λ l. l) (λ l. absurd (n (let z : code ≡ 0 = omega arith in rw z)))) h)
     (λ h. absurd (n (let z : length widths ≤ code = omega arith in get_or-eq_default widths 0 z)))
 
+-- what is said of an operand that was read
+abbrev pub Taken : ℕ → List ℕ → ℕ → Operand → Type 0
+Taken code s at o = (o ≡ operand_at code s at) × (le (part s at (width_of code)) < 256 ^ width_of code)
+
 module _ (code : ℕ) (s : List ℕ) (at : ℕ) (room : at + width_of code ≤ length s) (bytes : (i : ℕ) → get_or s i 0 < 256) where
   number_below : le (part s at (width_of code)) < 256 ^ width_of code
   number_below = part_below s at (width_of code) bytes
 
-  -- what is said of an operand that was read
-  abbrev Read : Operand → Type 0
-  Read o = (o ≡ operand_at code s at) × (le (part s at (width_of code)) < 256 ^ width_of code)
-
-  pub no_operand : width_of code ≡ 0 → (o : Operand) → o ≡ record { value = U8 0; bits = 0; next = at } → Read o
+  pub no_operand : width_of code ≡ 0 → (o : Operand) → o ≡ record { value = U8 0; bits = 0; next = at } → Taken code s at o
   unfolding operand_at le
   no_operand e o q = let z : at + 0 ≡ at = omega arith in (q ∙ rw (no_kind code e, e, z), number_below)
 
-  -- an operand of kind k takes w bytes, which are there
-  module _ (some : width_of code ≡ 0 → ⊥) where
-    module _ (k w : ℕ) (kind : kind_of code ≡ k) (bytes_of : get_or kind_widths k 0 ≡ w) where
-      width : width_of code ≡ w
-      width = kind_bytes code some ∙ (ap (λ (j : ℕ). get_or kind_widths j 0) kind ∙ bytes_of)
+-- an operand of kind k takes the w bytes of its kind
+pub kind_room : (code at k w n : ℕ) → at + width_of code ≤ n → (width_of code ≡ 0 → ⊥) → kind_of code ≡ k → get_or kind_widths k 0 ≡ w → at + w ≤ n
+kind_room code at k w n room some kind few = omega (arith, kind_bytes code some ∙ (ap (λ (j : ℕ). get_or kind_widths j 0) kind ∙ few))
 
-      there : number_at s at w ≡ record { ok = true; bits = le (part s at w); next = at + w }
-      there = let h : at + w ≤ length s = omega (arith, width, room) in rw (le-leb (at + w) (length s) h)
+-- which are there, and are read as the number that makes its value
+module _ (code : ℕ) (s : List ℕ) (at : ℕ) (room : at + width_of code ≤ length s) (bytes : (i : ℕ) → get_or s i 0 < 256) (some : width_of code ≡ 0 → ⊥) where
+  module _ {A : Type 0} (k w : ℕ) (number : ℕ → A) (make : A → OperandValue) (kind : kind_of code ≡ k) (few : get_or kind_widths k 0 ≡ w) (made : (n : ℕ) → n < 256 ^ w → make (number n) ≡ value_of k n) where
+    width : width_of code ≡ w
+    width = kind_bytes code some ∙ (ap (λ (j : ℕ). get_or kind_widths j 0) kind ∙ few)
 
-      all : (n : ℕ) → 256 ^ w ≡ n → le (part s at w) % n ≡ le (part s at w)
-      all n q = mod-eq_of_lt (rw (width, q) at number_below)
+    there : read_at w number s at ≡ Some (record { value = number (le (part s at w)); bits = le (part s at w); next = at + w })
+    there = let h : at + w ≤ length s = omega (arith, width, room) in rw (le-leb (at + w) (length s) h)
 
-    pub u8_operand : kind_of code ≡ 0 → (r : ReadU8) → r ≡ u8_at s at → (o : Operand) → o ≡ record { value = U8 r.value; bits = 0; next = r.next } → Read o
+    pub as_read : (r : Read A) → Some r ≡ read_at w number s at → (beside : ℕ) → beside ≡ pick (eqb k 5) r.bits 0
+        → (o : Operand) → o ≡ record { value = make r.value; bits = beside; next = r.next } → Taken code s at o
     unfolding operand_at
-    u8_operand k r e o q = (q ∙ rw (e, there 0 1 k refl, k, width 0 1 k refl, all 0 1 k refl 256 refl), number_below)
+    as_read r e beside b o q =
+        let n = le (part s at w) in
+        let f : r ≡ record { value = number n; bits = n; next = at + w } = cc (e, there) in
+        let l : n < 256 ^ w = part_below s at w bytes in
+        (q ∙ rw (b, f, made n l, kind, width), part_below s at (width_of code) bytes)
 
-    pub u16_operand : kind_of code ≡ 1 → (r : ReadU16) → r ≡ u16_at s at → (o : Operand) → o ≡ record { value = U16 r.value; bits = 0; next = r.next } → Read o
-    unfolding operand_at
-    u16_operand k r e o q = (q ∙ rw (e, there 1 2 k refl, k, width 1 2 k refl, all 1 2 k refl 65536 refl), number_below)
+  -- the operands of the six kinds
+  pub u8_operand : kind_of code ≡ 0 → (r : Read ℕ) → Some r ≡ read_at 1 (λ n. n) s at → (o : Operand) → o ≡ record { value = U8 r.value; bits = 0; next = r.next } → Taken code s at o
+  u8_operand k r e = as_read 0 1 (λ n. n) U8 k refl (λ n h. ap U8 (sym (mod-eq_of_lt h))) r e 0 refl
 
-    pub u32_operand : kind_of code ≡ 2 → (r : ReadU32) → r ≡ u32_at s at → (o : Operand) → o ≡ record { value = U32 r.value; bits = 0; next = r.next } → Read o
-    unfolding operand_at
-    u32_operand k r e o q = (q ∙ rw (e, there 2 4 k refl, k, width 2 4 k refl, all 2 4 k refl 4294967296 refl), number_below)
+  pub u16_operand : kind_of code ≡ 1 → (r : Read ℕ) → Some r ≡ read_at 2 (λ n. n) s at → (o : Operand) → o ≡ record { value = U16 r.value; bits = 0; next = r.next } → Taken code s at o
+  u16_operand k r e = as_read 1 2 (λ n. n) U16 k refl (λ n h. ap U16 (sym (mod-eq_of_lt h))) r e 0 refl
 
-    pub i8_operand : kind_of code ≡ 3 → (r : ReadI8) → r ≡ i8_at s at → (o : Operand) → o ≡ record { value = I8 r.value; bits = 0; next = r.next } → Read o
-    unfolding operand_at
-    i8_operand k r e o q = (q ∙ rw (e, there 3 1 k refl, k, width 3 1 k refl, all 3 1 k refl 256 refl), number_below)
+  pub u32_operand : kind_of code ≡ 2 → (r : Read ℕ) → Some r ≡ read_at 4 (λ n. n) s at → (o : Operand) → o ≡ record { value = U32 r.value; bits = 0; next = r.next } → Taken code s at o
+  u32_operand k r e = as_read 2 4 (λ n. n) U32 k refl (λ n h. ap U32 (sym (mod-eq_of_lt h))) r e 0 refl
 
-    pub i32_operand : kind_of code ≡ 4 → (r : ReadI32) → r ≡ i32_at s at → (o : Operand) → o ≡ record { value = I32 r.value; bits = 0; next = r.next } → Read o
-    unfolding operand_at
-    i32_operand k r e o q = (q ∙ rw (e, there 4 4 k refl, k, width 4 4 k refl, all 4 4 k refl 4294967296 refl), number_below)
+  pub i8_operand : kind_of code ≡ 3 → (r : Read ℤ) → Some r ≡ read_at 1 (signed 8) s at → (o : Operand) → o ≡ record { value = I8 r.value; bits = 0; next = r.next } → Taken code s at o
+  i8_operand k r e = as_read 3 1 (signed 8) I8 k refl (λ n h. ap (λ m. I8 (signed 8 m)) (sym (mod-eq_of_lt h))) r e 0 refl
 
-    pub f64_operand : kind_of code ≡ 5 → (r : ReadF64) → r ≡ f64_at s at → (o : Operand) → o ≡ record { value = F64 r.value; bits = r.bits; next = r.next } → Read o
-    unfolding operand_at
-    f64_operand k r e o q = (q ∙ rw (e, there 5 8 k refl, k, width 5 8 k refl), number_below)
+  pub i32_operand : kind_of code ≡ 4 → (r : Read ℤ) → Some r ≡ read_at 4 (signed 32) s at → (o : Operand) → o ≡ record { value = I32 r.value; bits = 0; next = r.next } → Taken code s at o
+  i32_operand k r e = as_read 4 4 (signed 32) I32 k refl (λ n h. ap (λ m. I32 (signed 32 m)) (sym (mod-eq_of_lt h))) r e 0 refl
+
+  pub f64_operand : kind_of code ≡ 5 → (r : Read Float) → Some r ≡ read_at 8 (of_bits binary64) s at → (o : Operand) → o ≡ record { value = F64 r.value; bits = r.bits; next = r.next } → Taken code s at o
+  f64_operand k r e = as_read 5 8 (of_bits binary64) F64 k refl (λ n h. refl) r e r.bits refl

@@ -1,35 +1,31 @@
 -- Laws of operands from values. Assumes nothing.
-use mathlib.Core.Path.{◌≡◌, refl, ap, sym, ◌∙◌}
-use mathlib.Core.Bool.{true}
-use mathlib.Core.List.{[]}
-use Prim.Native.Nat.{ℕ, zero, suc, ◌+◌, ◌-◌, ◌*◌, ◌/◌, ◌%◌, ◌^◌, ◌≤◌, ◌<◌}
+use Rattle.std.proofs.Common.{◌≡◌, ℕ, zero, suc, ◌+◌, ◌*◌, ◌/◌, ◌%◌, ◌^◌, ◌≤◌, ◌<◌, Bool, true, false, ltb, leb, eqb, [], ℤ, Some, None, refl, ap, sym, ◌∙◌, arith, lt-ltb, le-ltb, le-leb, eq-eqb, ne_eqb}
 use native.Mathlib.Nat.{pow-suc, one-le-pow, pow-le-pow_right, lt_of_lt_of_le, le-div_iff_mul-le, one-mul, div-eq_of_lt, mul_assoc, mod-lt, mod-add-div'}
-use native.Mathlib.Omega.{arith}
-use lib.Dec.{eqb, ltb}
 use lib.ListN.{get_or-eq_default}
-use borrow.Author.Tests.{lt-ltb, le-ltb, eq-eqb, ne_eqb, leb-true}
+use borrow.Author.Tests.{leb-true}
+use Rattle.std.specs.Bool.{then_some}
+use Rattle.std.specs.Float.Ieee.{Float}
+use Rattle.lists.specs.Choice.{pick, either}
 use Rattle.lists.proofs.Tests.{by_leb, both_left}
 use Rattle.numbers.proofs.ByteSums.{bytes_bits}
-use Rattle.spec_numbers.specs.TwosComplement.{extend8}
 use Rattle.spec_numbers.specs.LittleEndian.{le_bytes}
 use Rattle.spec_sheet.specs.Types.{widths, width_of, kind_of}
 use Rattle.spec_sheet.proofs.TypeLaws.{kind_most}
-use Rattle.spec_body.specs.Encode.{good_pair, encode_operand}
-use Rattle.spec_body.proofs.OperandLaws.{kind_width, kept, pair_bound, same_fits, no_fit_not}
-use Rattle.operand.specs.Value.{value_of}
-use Rattle.spec_body.specs.Encode.{Fitted}
+use Rattle.spec_body.specs.Encode.{Fitted, good_pair, encode_unsigned, encode_addr8, encode_signed32, encode_double, encode_operand}
 use Rattle.spec_body.specs.Encode.Fitted.{fits, no_fit}
+use Rattle.spec_body.proofs.OperandLaws.{kind_width, kept, pair_bound, same_fits, no_fit_not}
 use Rattle.operand.specs.declared.value.OperandValue.{OperandValue}
-use Rattle.operand.specs.declared.write.Fitted.TheVariants.{Bits, NoFit}
+use Rattle.operand.specs.declared.value.OperandValue.TheVariants.{U8, U16, U32, I8, I32, F64}
+use Rattle.operand.specs.Value.{value_of, kind_of_value, bits_of_value}
 use Rattle.operand.specs.Write.{write_operand, fitted_of}
 use Rattle.operand.proofs.ValueLaws.{kind_back, bits_low, bits_back}
 
 -- what was fitted, by the answer
-pub fitted_bits : (p : Fitted) (n : ℕ) → fitted_of p ≡ Bits n → p ≡ fits n
+pub fitted_bits : (p : Fitted) (n : ℕ) → fitted_of p ≡ Some n → p ≡ fits n
 fitted_bits (fits m) n e = let q : m ≡ n = cc e in ap fits q
 fitted_bits no_fit n e = absurd (let z : ◌≡◌ {A = ℕ} 0 1 = cc e in omega arith)
 
-pub fitted_misfit : (p : Fitted) → fitted_of p ≡ NoFit → p ≡ no_fit
+pub fitted_misfit : (p : Fitted) → fitted_of p ≡ None → p ≡ no_fit
 fitted_misfit (fits m) e = absurd (let z : ◌≡◌ {A = ℕ} 0 1 = cc e in omega arith)
 fitted_misfit no_fit e = refl
 
@@ -47,10 +43,57 @@ shifted_out w n =
 pub wide_enough : (w n : ℕ) → 8 ≤ w → n < 2 ^ 64 → true ≡ ltb n (256 ^ w)
 wide_enough w n h l = sym (lt-ltb n (256 ^ w) (lt_of_lt_of_le l (pow-le-pow_right {n = 256} (omega arith) h)))
 
--- past a byte all bits are set
-pub extend_past : (n : ℕ) → 256 ≤ n → extend8 n ≡ 2 ^ 32 - 1
-unfolding extend8
-extend_past n h = rw (le-ltb n 128 (omega arith)) (omega arith)
+-- the number of a value under each conversion
+fitted_if : (b : Bool) (n : ℕ) → then_some b n ≡ fitted_of (pick b (fits n) no_fit)
+fitted_if true n = refl
+fitted_if false n = refl
+
+pub unsigned_if : (code k n : ℕ) → k ≤ 2 → then_some (ltb n (256 ^ width_of code)) n ≡ fitted_of (encode_unsigned code k n)
+unfolding encode_unsigned
+unsigned_if code k n h = rw (le-leb k 2 h) (fitted_if (ltb n (256 ^ width_of code)) n)
+
+pub signed_byte_if : (n : ℕ) → then_some (either (ltb n 128) (leb 4294967168 n)) (n % 256) ≡ fitted_of (encode_addr8 4 n)
+unfolding encode_addr8
+signed_byte_if n = fitted_if (either (ltb n 128) (leb 4294967168 n)) (n % 256)
+
+pub no_unsigned : (v : OperandValue) (beside code : ℕ) → ((x : ℕ) → v ≡ U8 x → ⊥) → ((x : ℕ) → v ≡ U16 x → ⊥) → ((x : ℕ) → v ≡ U32 x → ⊥)
+    → None ≡ fitted_of (encode_unsigned code (kind_of_value v) (bits_of_value v beside))
+unfolding encode_unsigned kind_of_value bits_of_value
+no_unsigned (U8 x) beside code a b d = absurd (a x refl)
+no_unsigned (U16 x) beside code a b d = absurd (b x refl)
+no_unsigned (U32 x) beside code a b d = absurd (d x refl)
+no_unsigned (I8 x) beside code a b d = refl
+no_unsigned (I32 x) beside code a b d = refl
+no_unsigned (F64 x) beside code a b d = refl
+
+pub no_address : (v : OperandValue) (beside : ℕ) → ((x : ℕ) → v ≡ U8 x → ⊥) → ((x : ℤ) → v ≡ I8 x → ⊥) → ((x : ℤ) → v ≡ I32 x → ⊥)
+    → None ≡ fitted_of (encode_addr8 (kind_of_value v) (bits_of_value v beside))
+unfolding encode_addr8 kind_of_value bits_of_value
+no_address (U8 x) beside a b d = absurd (a x refl)
+no_address (U16 x) beside a b d = refl
+no_address (U32 x) beside a b d = refl
+no_address (I8 x) beside a b d = absurd (b x refl)
+no_address (I32 x) beside a b d = absurd (d x refl)
+no_address (F64 x) beside a b d = refl
+
+pub own_bits : (v : OperandValue) (beside b : ℕ) → ((x : ℤ) → v ≡ I8 x → ⊥) → ((x : Float) → v ≡ F64 x → ⊥)
+    → Some (bits_of_value v b) ≡ fitted_of (encode_signed32 (kind_of_value v) (bits_of_value v beside))
+unfolding encode_signed32 kind_of_value bits_of_value
+own_bits (U8 x) beside b a d = refl
+own_bits (U16 x) beside b a d = refl
+own_bits (U32 x) beside b a d = refl
+own_bits (I8 x) beside b a d = absurd (a x refl)
+own_bits (I32 x) beside b a d = refl
+own_bits (F64 x) beside b a d = absurd (d x refl)
+
+pub no_double : (v : OperandValue) (beside : ℕ) → ((x : Float) → v ≡ F64 x → ⊥) → None ≡ fitted_of (encode_double (kind_of_value v) (bits_of_value v beside))
+unfolding encode_double kind_of_value
+no_double (U8 x) beside d = refl
+no_double (U16 x) beside d = refl
+no_double (U32 x) beside d = refl
+no_double (I8 x) beside d = refl
+no_double (I32 x) beside d = refl
+no_double (F64 x) beside d = absurd (d x refl)
 
 -- a pair that is no shape fault has its bits within its kind, so that its value is written as the pair is encoded
 pub pair_kind : (kind bits : ℕ) → good_pair kind bits ≡ true → kind ≤ 5

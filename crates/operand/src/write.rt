@@ -1,121 +1,84 @@
-// One operand: the little-endian number that a value gives under an operand type, `write_operand` of encode.rs.
-ghost use Rattle.std.specs.Prelude.{◌≡◌, ◌^◌, ltb};
+// One operand: the little-endian number that a value gives under an operand type, or that it does not fit: `write_operand` of
+// encode.rs.
+ghost use Rattle.std.specs.Prelude.{◌≡◌, ℕ, ◌^◌, ltb};
 ghost use Rattle.lists.specs.Write.{Put};
 ghost use Rattle.spec_numbers.specs.LittleEndian.{le_bytes};
-ghost use Rattle.spec_numbers.specs.TwosComplement.{extend8};
 ghost use Rattle.spec_sheet.specs.Types.{width_of};
 ghost use Rattle.spec_body.specs.Encode.{encode_unsigned, encode_addr8, encode_signed32, encode_double, encode_operand};
+ghost use Rattle.operand.specs.Value.{kind_of_value, bits_of_value};
 ghost use Rattle.operand.specs.Write.{write_operand, fitted_of};
 
-use crate::value::{OperandValue, bits_of, kind_of, value_of};
-
-// The number of an operand, or that the value does not fit its type.
-#[derive(Clone, Copy)]
-pub enum Fitted {
-    Bits(u64),
-    NoFit,
-}
+use crate::value::{OperandValue, bits_of, value_of};
+use numbers::signed::{bits_i8, bits_i32, sign_extend8};
 
 // Whether a number has at most w bytes.
 pub fn fits_in(w: usize, bits: u64) -> bool
     ensures { result ≡ ltb bits (256 ^ w) }
 {
-    if 8 <= w {
-        return true;
-    }
-    bits >> (8 * w) == 0
+    8 <= w || bits >> (8 * w) == 0
 }
 
-// Into a register, a number or a string id.
-fn encode_unsigned(code: u8, kind: u8, bits: u64) -> Fitted
-    ensures { result ≡ fitted_of (encode_unsigned code kind bits) }
+// Into a register, a number or a string id: an unsigned value that is no wider.
+fn encode_unsigned(code: u8, v: OperandValue) -> Option<u64>
+    ensures { (beside : ℕ) → result ≡ fitted_of (encode_unsigned code (kind_of_value v) (bits_of_value v beside)) }
 {
-    if 2 < kind {
-        return Fitted::NoFit;
-    }
-    if fits_in(sheet::operand_types::width(code), bits) {
-        return Fitted::Bits(bits);
-    }
-    Fitted::NoFit
+    let bits = match v {
+        OperandValue::U8(x) => x as u64,
+        OperandValue::U16(x) => x as u64,
+        OperandValue::U32(x) => x as u64,
+        _ => return None,
+    };
+    fits_in(sheet::operand_types::width(code), bits).then_some(bits)
 }
 
-// Into Addr8.
-fn encode_addr8(kind: u8, bits: u64) -> Fitted
-    ensures { result ≡ fitted_of (encode_addr8 kind bits) }
+// Into Addr8: a signed byte, a number that is one, and a U8 by its bits.
+fn encode_addr8(v: OperandValue) -> Option<u64>
+    ensures { (beside : ℕ) → result ≡ fitted_of (encode_addr8 (kind_of_value v) (bits_of_value v beside)) }
 {
-    if kind == 3 {
-        return Fitted::Bits(bits);
+    match v {
+        OperandValue::U8(x) => Some(x as u64),
+        OperandValue::I8(x) => Some(bits_i8(x) as u64),
+        OperandValue::I32(x) => {
+            let bits = bits_i32(x) as u64;
+            (bits < 128 || 0xffff_ff80 <= bits).then_some(bits % 256)
+        }
+        _ => None,
     }
-    if kind == 0 {
-        return Fitted::Bits(bits);
-    }
-    if kind != 4 {
-        return Fitted::NoFit;
-    }
-    if bits < 128 {
-        return Fitted::Bits(bits % 256);
-    }
-    if 0xffff_ff80 <= bits {
-        return Fitted::Bits(bits % 256);
-    }
-    Fitted::NoFit
 }
 
-// A signed byte with 32 bits. What is no byte, and so in no record that is taken, has them all set, as the definition
-// says.
-fn extend_bits(bits: u64) -> u64
-    ensures { result ≡ extend8 bits }
+// Into Addr32 and Imm32: a signed byte with its sign, and other values by their bits, but no double.
+fn encode_signed32(v: OperandValue) -> Option<u64>
+    ensures { (beside : ℕ) → result ≡ fitted_of (encode_signed32 (kind_of_value v) (bits_of_value v beside)) }
 {
-    if bits < 256 {
-        return numbers::signed::sign_extend8(bits as u8) as u64;
+    match v {
+        OperandValue::I8(x) => Some(sign_extend8(bits_i8(x)) as u64),
+        OperandValue::F64(_) => None,
+        _ => Some(bits_of(v, 0)),
     }
-    0xffff_ffff
 }
 
-// Into Addr32 and Imm32.
-fn encode_signed32(kind: u8, bits: u64) -> Fitted
-    ensures { result ≡ fitted_of (encode_signed32 kind bits) }
+// Into Double: a double by the bits beside it.
+fn encode_double(v: OperandValue, beside: u64) -> Option<u64>
+    ensures { result ≡ fitted_of (encode_double (kind_of_value v) (bits_of_value v beside)) }
 {
-    if kind == 3 {
-        return Fitted::Bits(extend_bits(bits));
+    match v {
+        OperandValue::F64(_) => Some(beside),
+        _ => None,
     }
-    if kind <= 4 {
-        return Fitted::Bits(bits);
-    }
-    Fitted::NoFit
-}
-
-// Into Double.
-fn encode_double(kind: u8, bits: u64) -> Fitted
-    ensures { result ≡ fitted_of (encode_double kind bits) }
-{
-    if kind == 5 {
-        return Fitted::Bits(bits);
-    }
-    Fitted::NoFit
-}
-
-// The number of an operand of a type, from a value's kind and bits.
-fn encode_number(code: u8, kind: u8, bits: u64) -> Fitted
-    ensures { result ≡ fitted_of (encode_operand code kind bits) }
-{
-    if sheet::operand_types::family(code) <= sheet::operand_types::STRING_FAMILY {
-        return encode_unsigned(code, kind, bits);
-    }
-    if code == sheet::operand_types::ADDR8 {
-        return encode_addr8(kind, bits);
-    }
-    if code == sheet::operand_types::DOUBLE {
-        return encode_double(kind, bits);
-    }
-    encode_signed32(kind, bits)
 }
 
 // The number of an operand of a type, from a value. A double's bits stand beside it.
-pub fn write_operand(code: u8, v: OperandValue, beside: u64) -> Fitted
+pub fn write_operand(code: u8, v: OperandValue, beside: u64) -> Option<u64>
     ensures { result ≡ fitted_of (write_operand code v beside) }
 {
-    encode_number(code, kind_of(v), bits_of(v, beside))
+    if sheet::operand_types::family(code) <= sheet::operand_types::STRING_FAMILY {
+        return encode_unsigned(code, v);
+    }
+    match code {
+        sheet::operand_types::ADDR8 => encode_addr8(v),
+        sheet::operand_types::DOUBLE => encode_double(v, beside),
+        _ => encode_signed32(v),
+    }
 }
 
 // Writes a number as an operand of a type, as a value of the type's kind: its low bytes. What is no type has none.
@@ -123,8 +86,7 @@ pub fn put_value(out: &mut [u8], k: usize, code: u8, bits: u64) -> usize
     ensures { Put out.old k (le_bytes (width_of code) bits) out.new result }
 {
     let value = value_of(sheet::operand_types::kind(code), bits);
-    let fitted = write_operand(code, value, bits);
-    let Fitted::Bits(n) = fitted else {
+    let Some(n) = write_operand(code, value, bits) else {
         return k;
     };
     numbers::little_endian::put_le(out, k, sheet::operand_types::width(code), n)

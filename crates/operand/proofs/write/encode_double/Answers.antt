@@ -1,11 +1,11 @@
-use borrow.Author.Tests.{ne_eqb}
 use Rattle.spec_body.specs.Encode.{encode_double}
+use Rattle.operand.specs.Value.{kind_of_value, bits_of_value}
+use Rattle.operand.proofs.WriteLaws.{no_double}
 use Rattle.operand.proofs.write.encode_double.Goals as goal
 
-pub returns-then-kind-eq5 : goal.returns-then-kind-eq5
-unfolding encode_double
-returns-then-kind-eq5 c = rw c.if-kind-eq5.true
+pub returns-in-F64 : goal.returns-in-F64
+unfolding encode_double kind_of_value bits_of_value
+returns-in-F64 c = rw c.in-F64.is
 
-pub returns : goal.returns
-unfolding encode_double
-returns c = rw (ne_eqb c.args.kind 5 c.if-kind-eq5.false)
+pub returns-in_default : goal.returns-in_default
+returns-in_default c = no_double c.args.v c.args.beside c.in_default.not-F64

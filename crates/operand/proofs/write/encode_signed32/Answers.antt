@@ -1,21 +1,19 @@
-use Rattle.operand.specs.declared.write.Fitted.TheVariants.{Bits}
-use mathlib.Core.Path.{ap}
-use borrow.Author.Tests.{ne_eqb, le-leb, lt-leb}
+use Rattle.std.proofs.Common.{◌≡◌, ap, ◌∙◌, Some, rules, w8, to_z, of_z}
+use Rattle.spec_numbers.specs.TwosComplement.{extend8}
 use Rattle.spec_body.specs.Encode.{encode_signed32}
+use Rattle.operand.specs.Value.{kind_of_value, bits_of_value}
+use Rattle.operand.proofs.WriteLaws.{own_bits}
 use Rattle.operand.proofs.write.encode_signed32.Goals as goal
 
-pub returns-then-kind-eq3 : goal.returns-then-kind-eq3
-unfolding encode_signed32
-returns-then-kind-eq3 c = rw c.if-kind-eq3.true (ap Bits c.extend_bits.ensures)
+pub returns-in-I8 : goal.returns-in-I8
+unfolding encode_signed32 kind_of_value bits_of_value
+returns-in-I8 c beside =
+    let e : to_z w8 (of_z w8 c.in-I8.x) ≡ c.in-I8.x = search rules in
+    rw c.in-I8.is (ap Some (c.sign_extend8.ensures ∙ ap extend8 (rw e at c.bits_i8.ensures)))
 
-pub returns-then-kind-le4 : goal.returns-then-kind-le4
-unfolding encode_signed32
-returns-then-kind-le4 c =
-    let k = c.args.kind in
-    rw (ne_eqb k 3 c.if-kind-eq3.false, le-leb k 4 c.if-kind-le4.true)
+pub returns-in-F64 : goal.returns-in-F64
+unfolding encode_signed32 kind_of_value bits_of_value
+returns-in-F64 c beside = rw c.in-F64.is
 
-pub returns : goal.returns
-unfolding encode_signed32
-returns c =
-    let k = c.args.kind in
-    rw (ne_eqb k 3 c.if-kind-eq3.false, lt-leb k 4 c.if-kind-le4.false)
+pub returns-in_default : goal.returns-in_default
+returns-in_default c beside = rw c.bits_of.ensures (own_bits c.args.v beside 0 c.in_default.not-I8 c.in_default.not-F64)

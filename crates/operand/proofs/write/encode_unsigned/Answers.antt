@@ -1,19 +1,22 @@
-use borrow.Author.Tests.{le-leb, lt-leb}
-use Rattle.spec_body.specs.Encode.{encode_unsigned}
+use Rattle.std.proofs.Common.{◌≡◌, ◌^◌, ltb, ◌∙◌, arith}
+use Rattle.std.specs.Bool.{then_some}
+use Rattle.spec_sheet.specs.Types.{width_of}
+use Rattle.operand.specs.Value.{kind_of_value, bits_of_value}
+use Rattle.operand.proofs.WriteLaws.{no_unsigned, unsigned_if}
 use Rattle.operand.proofs.write.encode_unsigned.Goals as goal
+use Rattle.operand.proofs.write.encode_unsigned.Goals.{in-U8, in-U16, in-U32}
 
-pub returns-then-kind-gt2 : goal.returns-then-kind-gt2
-unfolding encode_unsigned
-returns-then-kind-gt2 c = rw (lt-leb c.args.kind 2 c.if-kind-gt2.true)
-
-pub returns-then-fits_in : goal.returns-then-fits_in
-unfolding encode_unsigned
-returns-then-fits_in c =
-    let a = c.args in
-    rw (le-leb a.kind 2 c.if-kind-gt2.false, ← c.width.ensures, ← c.fits_in.ensures, c.if-fits_in.true)
+pub returns-in_default : goal.returns-in_default
+returns-in_default c beside = no_unsigned c.args.v beside c.args.code c.in_default.not-U8 c.in_default.not-U16 c.in_default.not-U32
 
 pub returns : goal.returns
-unfolding encode_unsigned
-returns c =
-    let a = c.args in
-    rw (le-leb a.kind 2 c.if-kind-gt2.false, ← c.width.ensures, ← c.fits_in.ensures, c.if-fits_in.false)
+unfolding kind_of_value bits_of_value
+returns c beside =
+    let code = c.args.code in
+    let n = c.match-v.bits in
+    let e : c.then_some.result ≡ then_some (ltb n (256 ^ width_of code)) n = rw (← c.width.ensures, ← c.fits_in.ensures) c.then_some.ensures in
+    elim c.match-v.branch [
+      | in-U8 w ↦ rw (w.in-U8.is, ← w.bits-is) (e ∙ unsigned_if code 0 n (omega arith))
+      | in-U16 w ↦ rw (w.in-U16.is, ← w.bits-is) (e ∙ unsigned_if code 1 n (omega arith))
+      | in-U32 w ↦ rw (w.in-U32.is, ← w.bits-is) (e ∙ unsigned_if code 2 n (omega arith))
+    ]

@@ -12,7 +12,7 @@ returns-in_default c =
     let a = c.args in
     let v = c.value_of-value.ensures ∙ ap (λ (k : ℕ). value_of k a.bits) c.kind.ensures in
     let m : a.bits < 2 ^ 64 = omega arith in
-    let f = fitted_misfit _ (sym c.write_operand-fitted.ensures ∙ c.in_default.is) in
+    let f = fitted_misfit _ (sym c.in_default.ensures) in
     same_piece (sym (written_none a.code a.bits _ m v f)) (wrote_none (search rules) (omega arith))
 
 pub returns : goal.returns
@@ -20,5 +20,5 @@ returns c =
     let a = c.args in
     let v = c.value_of-value.ensures ∙ ap (λ (k : ℕ). value_of k a.bits) c.kind.ensures in
     let m : a.bits < 2 ^ 64 = omega arith in
-    let f = fitted_bits _ _ (sym c.write_operand-fitted.ensures ∙ c.in-Bits.is) in
+    let f = fitted_bits _ _ (sym c.in-Some.ensures) in
     same_piece (written_low a.code a.bits _ m v _ f) (rw c.width.ensures at c.put_le.ensures)

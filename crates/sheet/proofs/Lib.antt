@@ -13,3 +13,4 @@ pub mod SheetAnswers
 pub mod NameWalk
 pub mod RowLaws
 pub mod Filled
+pub mod FamilyLaws

@@ -5,3 +5,4 @@ pub mod NameFilter
 pub mod Rows
 pub mod Sheets
 pub mod Keys
+pub mod Families

@@ -1,6 +1,7 @@
 // The opcode sheet (opcode.rs).
 #![tactic(auto)]
 
+pub mod family; // the families of operand types
 pub mod letter_word; // the letters in front of eight bytes
 pub mod line; // one opcode line
 pub mod line_word; // the fixed texts and the number of an opcode line by words

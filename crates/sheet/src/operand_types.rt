@@ -1,24 +1,15 @@
 // The twelve operand types by their codes.
 ghost use Rattle.std.specs.Prelude.{◌≡◌, get_or};
 ghost use Rattle.spec_sheet.specs.Types.{type_code, width_of, family_of, kind_of};
+ghost use Rattle.sheet.specs.Families.{family_number};
 
+use crate::family::Family;
 use slices::compare::same_bytes;
 
 // Two codes that other crates name.
 pub const ADDR8: u8 = 9;
 
 pub const DOUBLE: u8 = 12;
-
-// The families of a carry; 0 for no operand.
-pub const REG_FAMILY: u8 = 1;
-
-pub const UINT_FAMILY: u8 = 2;
-
-pub const STRING_FAMILY: u8 = 3;
-
-pub const ADDR_FAMILY: u8 = 4;
-
-pub const IMM32_FAMILY: u8 = 5;
 
 // The code of a type's name, or 0.
 pub fn type_code(word: &[u8]) -> u8
@@ -83,13 +74,18 @@ pub fn width(code: u8) -> usize
 }
 
 // The family that a carry keeps.
-pub fn family(code: u8) -> u8
-    ensures { result ≡ family_of code }
+pub fn family(code: u8) -> Family
+    ensures { family_number result ≡ family_of code }
 {
-    entry(
-        b"\x00\x01\x01\x02\x02\x02\x03\x03\x03\x04\x04\x05\x06",
-        code,
-    )
+    match code {
+        1..=2 => Family::Reg,
+        3..=5 => Family::UInt,
+        6..=8 => Family::Str,
+        9..=10 => Family::Addr,
+        11 => Family::Imm32,
+        12 => Family::Double,
+        _ => Family::NoOperand,
+    }
 }
 
 // The kind of value that an operand is decoded to.

@@ -1,3 +1,4 @@
 pub mod HashLaws
 pub mod ChainLaws
 pub mod BackwardLaws
+pub mod KeyLaws

@@ -1,3 +1,4 @@
 pub mod Chain
 pub mod Backward
 pub mod Hash
+pub mod Keys

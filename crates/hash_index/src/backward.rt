@@ -14,11 +14,7 @@ pub fn empty_chains(index: &mut [u64], m: usize)
     requires { m ≤ length index.old }
     ensures { index.new ≡ replicate m 0 ++ drop m index.old }
 {
-    let mut i: usize = 0;
-    while i < m {
-        index[i] = 0;
-        i += 1;
-    }
+    index[..m].fill(0);
 }
 
 // Puts key k, with a number of its own, in front of the chain of bucket h.

@@ -8,12 +8,7 @@ pub fn empty_heads(index: &mut [u32], m: usize, n: usize)
     requires { (m ≤ length index.old) × (n < 2 ^ 32) }
     ensures { index.new ≡ replicate m n ++ drop m index.old }
 {
-    let end = n as u32;
-    let mut i: usize = 0;
-    while i < m {
-        index[i] = end;
-        i += 1;
-    }
+    index[..m].fill(n as u32);
 }
 
 // Puts i in front of the chain of bucket h. The nexts stand behind the m heads.

@@ -4,3 +4,4 @@
 pub mod backward; // chains that go from the last key to the first
 pub mod chain; // chains that go from the first key to the last
 pub mod hash; // a hash of bytes
+pub mod keys; // an index of keys, built and searched

@@ -14,10 +14,9 @@ ghost use Rattle.spec_numbers.specs.Double.{read_double, print_double};
 ghost use Rattle.spec_strings.specs.Escape.{quoted, unescape};
 ghost use Rattle.spec_strings.specs.Table.{fault, lookup};
 ghost use Rattle.spec_strings.specs.Utf8.{is_utf8};
-ghost use Rattle.desk_parts.specs.Parts.{some, none, part_of_number, part_of_found};
+ghost use Rattle.desk_parts.specs.Parts.{part_of};
 
-use numbers::parse::Number;
-use slices::search::Found;
+use strings::table::StringTable;
 
 // 1 and a number, or two zeros where there is none.
 #[repr(C)]
@@ -27,64 +26,53 @@ pub struct PartNumber {
     pub value: u64,
 }
 
-fn present(n: u64) -> PartNumber
-    ensures { result ≡ some n }
-{
-    PartNumber { found: 1, value: n }
-}
-
-fn absent() -> PartNumber
-    ensures { result ≡ none }
-{
-    PartNumber { found: 0, value: 0 }
-}
-
 // What was read from a text.
-pub fn part_of_number(a: Number) -> PartNumber
-    ensures { result ≡ part_of_number a }
-{
-    match a {
-        Number::Is(n) => present(n),
-        Number::Bad => absent(),
+impl From<Option<u64>> for PartNumber {
+    ghost from_gives = { λ a p. p ≡ part_of a };
+
+    fn from(a: Option<u64>) -> PartNumber {
+        match a {
+            Some(value) => PartNumber { found: 1, value },
+            None => PartNumber { found: 0, value: 0 },
+        }
     }
 }
 
 // The index that a search found.
-pub fn part_of_found(a: Found) -> PartNumber
-    ensures { result ≡ part_of_found a }
-{
-    match a {
-        Found::At(i) => present(i as u64),
-        Found::Missing => absent(),
+impl From<Option<usize>> for PartNumber {
+    ghost from_gives = { λ a p. p ≡ part_of a };
+
+    fn from(a: Option<usize>) -> PartNumber {
+        PartNumber::from(a.map(|i| i as u64))
     }
 }
 
 // Reads a u32 in decimal.
 pub fn part_parse_u32(text: &[u8]) -> PartNumber
-    ensures { result ≡ part_of_number (number_of (parse_u32 text.now)) }
+    ensures { result ≡ part_of (number_of (parse_u32 text.now)) }
 {
-    part_of_number(numbers::parse::parse_u32(text))
+    PartNumber::from(numbers::parse::parse_u32(text))
 }
 
 // Reads a u32 in hexadecimal.
 pub fn part_parse_hex(text: &[u8]) -> PartNumber
-    ensures { result ≡ part_of_number (number_of (parse_hex text.now)) }
+    ensures { result ≡ part_of (number_of (parse_hex text.now)) }
 {
-    part_of_number(numbers::parse::parse_hex(text))
+    PartNumber::from(numbers::parse::parse_hex(text))
 }
 
 // Reads an i32 in decimal; the value is its 32 bits.
 pub fn part_parse_i32(text: &[u8]) -> PartNumber
-    ensures { result ≡ part_of_number (number_of (parse_i32 text.now)) }
+    ensures { result ≡ part_of (number_of (parse_i32 text.now)) }
 {
-    part_of_number(numbers::parse::parse_i32(text))
+    PartNumber::from(numbers::parse::parse_i32(text))
 }
 
 // Reads a double; the value is its 64 bits.
 pub fn part_parse_double(text: &[u8]) -> PartNumber
-    ensures { result ≡ part_of_number (number_of (read_double text.now)) }
+    ensures { result ≡ part_of (number_of (read_double text.now)) }
 {
-    part_of_number(numbers::read_double::read_double(text))
+    PartNumber::from(numbers::read_double::read_double(text))
 }
 
 // Prints a number in decimal.
@@ -139,14 +127,14 @@ pub fn part_is_utf8(text: &[u8]) -> bool
 
 // The first entry of a string table that is refused with 17.
 pub fn part_table_fault(bytes: &[u8], ends: &[u32]) -> PartNumber
-    ensures { result ≡ part_of_found (found_of (fault bytes.now ends.now)) }
+    ensures { result ≡ part_of (found_of (fault bytes.now ends.now)) }
 {
-    part_of_found(strings::table::find_fault(bytes, ends))
+    PartNumber::from(StringTable { bytes, ends }.find_fault())
 }
 
 // The first id of a string table whose text is equal.
 pub fn part_lookup(text: &[u8], bytes: &[u8], ends: &[u32]) -> PartNumber
-    ensures { result ≡ part_of_found (found_of (lookup text.now bytes.now ends.now)) }
+    ensures { result ≡ part_of (found_of (lookup text.now bytes.now ends.now)) }
 {
-    part_of_found(strings::table::lookup(text, bytes, ends))
+    PartNumber::from(StringTable { bytes, ends }.lookup(text))
 }

@@ -13,14 +13,14 @@ ghost use Rattle.spec_numbers.specs.Double.{read_double, print_double};
 ghost use Rattle.spec_strings.specs.Escape.{quoted, unescape};
 ghost use Rattle.spec_strings.specs.Table.{fault, lookup};
 ghost use Rattle.spec_strings.specs.Utf8.{is_utf8};
-ghost use Rattle.desk_parts.specs.Parts.{part_of_number, part_of_found};
+ghost use Rattle.desk_parts.specs.Parts.{part_of};
 
 use desk_parts::PartNumber;
 
 // Reads a u32 in decimal.
 #[unsafe(no_mangle)]
 pub extern "C" fn part_parse_u32(text: &[u8]) -> PartNumber
-    ensures { result ≡ part_of_number (number_of (parse_u32 text.now)) }
+    ensures { result ≡ part_of (number_of (parse_u32 text.now)) }
 {
     desk_parts::part_parse_u32(text)
 }
@@ -28,7 +28,7 @@ pub extern "C" fn part_parse_u32(text: &[u8]) -> PartNumber
 // Reads a u32 in hexadecimal.
 #[unsafe(no_mangle)]
 pub extern "C" fn part_parse_hex(text: &[u8]) -> PartNumber
-    ensures { result ≡ part_of_number (number_of (parse_hex text.now)) }
+    ensures { result ≡ part_of (number_of (parse_hex text.now)) }
 {
     desk_parts::part_parse_hex(text)
 }
@@ -36,7 +36,7 @@ pub extern "C" fn part_parse_hex(text: &[u8]) -> PartNumber
 // Reads an i32 in decimal; the value is its 32 bits.
 #[unsafe(no_mangle)]
 pub extern "C" fn part_parse_i32(text: &[u8]) -> PartNumber
-    ensures { result ≡ part_of_number (number_of (parse_i32 text.now)) }
+    ensures { result ≡ part_of (number_of (parse_i32 text.now)) }
 {
     desk_parts::part_parse_i32(text)
 }
@@ -44,7 +44,7 @@ pub extern "C" fn part_parse_i32(text: &[u8]) -> PartNumber
 // Reads a double; the value is its 64 bits.
 #[unsafe(no_mangle)]
 pub extern "C" fn part_parse_double(text: &[u8]) -> PartNumber
-    ensures { result ≡ part_of_number (number_of (read_double text.now)) }
+    ensures { result ≡ part_of (number_of (read_double text.now)) }
 {
     desk_parts::part_parse_double(text)
 }
@@ -107,7 +107,7 @@ pub extern "C" fn part_is_utf8(text: &[u8]) -> bool
 // The first entry of a string table that is refused with 17.
 #[unsafe(no_mangle)]
 pub extern "C" fn part_table_fault(bytes: &[u8], ends: &[u32]) -> PartNumber
-    ensures { result ≡ part_of_found (found_of (fault bytes.now ends.now)) }
+    ensures { result ≡ part_of (found_of (fault bytes.now ends.now)) }
 {
     desk_parts::part_table_fault(bytes, ends)
 }
@@ -115,7 +115,7 @@ pub extern "C" fn part_table_fault(bytes: &[u8], ends: &[u32]) -> PartNumber
 // The first id of a string table whose text is equal.
 #[unsafe(no_mangle)]
 pub extern "C" fn part_lookup(text: &[u8], bytes: &[u8], ends: &[u32]) -> PartNumber
-    ensures { result ≡ part_of_found (found_of (lookup text.now bytes.now ends.now)) }
+    ensures { result ≡ part_of (found_of (lookup text.now bytes.now ends.now)) }
 {
     desk_parts::part_lookup(text, bytes, ends)
 }

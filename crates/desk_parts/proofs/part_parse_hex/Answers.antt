@@ -1,6 +1,0 @@
-use Rattle.desk_parts.specs.Parts.{part_of_number}
-use mathlib.Core.Path.{ap, ◌∙◌}
-use Rattle.desk_parts.proofs.part_parse_hex.Goals as goal
-
-pub returns : goal.returns
-returns c = c.part_of_number.ensures ∙ ap part_of_number c.parse_hex.ensures

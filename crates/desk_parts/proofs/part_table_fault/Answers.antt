@@ -1,6 +1,0 @@
-use Rattle.desk_parts.specs.Parts.{part_of_found}
-use mathlib.Core.Path.{ap, ◌∙◌}
-use Rattle.desk_parts.proofs.part_table_fault.Goals as goal
-
-pub returns : goal.returns
-returns c = c.part_of_found.ensures ∙ ap part_of_found c.find_fault.ensures

@@ -1,27 +1,23 @@
 -- Laws of the first comma outside quotes: at an index, and of the parts that it splits. Assumes nothing.
 use mathlib.Core.Path.{◌≡◌, refl}
-use mathlib.Core.Bool.{true, false}
-use Prim.Native.Nat.{ℕ, suc, ◌+◌, ◌≤◌, ◌<◌}
-use native.Mathlib.Numerals.{add-one}
+use Prim.Native.Nat.{ℕ, suc, ◌≤◌, ◌<◌}
 use native.Mathlib.Omega.{arith}
 use mathlib.Core.List.{List, [], ◌∷◌}
-use borrow.Author.Tests.{eq-eqb, ne_eqb, eqb-true, eqb-false}
-use lib.ListN.{length, take, drop, get_or, drop_of_length-le}
-use lib.Seq.{drop-cons}
+use borrow.Author.Tests.{eq-eqb, ne_eqb}
+use lib.ListN.{length, take, drop}
 use Rattle.lists.proofs.Tests.{by_eqb}
 use Rattle.spec_hasm.specs.Text.{onto}
 use Rattle.spec_hasm.specs.Split.{split_outside, split_inside}
-use Rattle.hasm_read.specs.Quotes.{quote_at}
 use Rattle.hasm_read.specs.Commas.{comma_outside, comma_inside, comma_at}
 
 -- the clauses of the count and of the splitting, each by the byte that picks it
 module _ (b : ℕ) (s : List ℕ) where
   module _ (e : b ≡ 34) where
-    pub comma_cons_quote : comma_outside (b ∷ s) ≡ suc (comma_inside s)
+    comma_cons_quote : comma_outside (b ∷ s) ≡ suc (comma_inside s)
     unfolding comma_outside
     comma_cons_quote = rw (eq-eqb b 34 e, comma_outside)
 
-    pub inside_cons_quote : comma_inside (b ∷ s) ≡ suc (comma_outside s)
+    inside_cons_quote : comma_inside (b ∷ s) ≡ suc (comma_outside s)
     unfolding comma_inside
     inside_cons_quote = rw (eq-eqb b 34 e, comma_inside)
 
@@ -34,7 +30,7 @@ module _ (b : ℕ) (s : List ℕ) where
     quoted_cons_quote = rw (eq-eqb b 34 e, split_inside)
 
   module _ (n : b ≡ 34 → ⊥) where
-    pub inside_cons_go : comma_inside (b ∷ s) ≡ suc (comma_inside s)
+    inside_cons_go : comma_inside (b ∷ s) ≡ suc (comma_inside s)
     unfolding comma_inside
     inside_cons_go = rw (ne_eqb b 34 n, comma_inside)
 
@@ -42,7 +38,7 @@ module _ (b : ℕ) (s : List ℕ) where
     unfolding split_inside
     quoted_cons_go = rw (ne_eqb b 34 n, split_inside)
 
-    pub comma_cons_stop : b ≡ 44 → comma_outside (b ∷ s) ≡ 0
+    comma_cons_stop : b ≡ 44 → comma_outside (b ∷ s) ≡ 0
     unfolding comma_outside
     comma_cons_stop e = rw (ne_eqb b 34 n, eq-eqb b 44 e, comma_outside)
 
@@ -50,41 +46,13 @@ module _ (b : ℕ) (s : List ℕ) where
     unfolding split_outside
     split_cons_stop e = rw (ne_eqb b 34 n, eq-eqb b 44 e, split_outside)
 
-    pub comma_cons_go : (b ≡ 44 → ⊥) → comma_outside (b ∷ s) ≡ suc (comma_outside s)
+    comma_cons_go : (b ≡ 44 → ⊥) → comma_outside (b ∷ s) ≡ suc (comma_outside s)
     unfolding comma_outside
     comma_cons_go m = rw (ne_eqb b 34 n, ne_eqb b 44 m, comma_outside)
 
     split_cons_go : (b ≡ 44 → ⊥) → split_outside (b ∷ s) ≡ onto b (split_outside s)
     unfolding split_outside
     split_cons_go m = rw (ne_eqb b 34 n, ne_eqb b 44 m, split_outside)
-
--- what the loops step by
-module _ (s : List ℕ) (i : ℕ) where
-  pub comma_end : length s ≤ i → i + comma_at (drop i s) ≡ i
-  unfolding comma_outside
-  comma_end h = rw (drop_of_length-le s h) (omega arith)
-
-  pub inside_end : length s ≤ i → i + comma_inside (drop i s) ≡ i
-  unfolding comma_inside
-  inside_end h = rw (drop_of_length-le s h) (omega arith)
-
-  module _ (h : i < length s) where
-    module _ (e : quote_at false s i ≡ true) where
-      pub comma_quote : i + comma_at (drop i s) ≡ i + 1 + comma_inside (drop (i + 1) s)
-      comma_quote = rw (add-one, drop-cons s i 0 h, comma_cons_quote _ _ (eqb-true (get_or s i 0) 34 e)) (omega arith)
-
-      pub inside_quote : i + comma_inside (drop i s) ≡ i + 1 + comma_at (drop (i + 1) s)
-      inside_quote = rw (add-one, drop-cons s i 0 h, inside_cons_quote _ _ (eqb-true (get_or s i 0) 34 e)) (omega arith)
-
-    module _ (n : quote_at false s i ≡ false) where
-      pub comma_stop : get_or s i 0 ≡ 44 → i + comma_at (drop i s) ≡ i
-      comma_stop e = rw (drop-cons s i 0 h, comma_cons_stop _ _ (eqb-false (get_or s i 0) 34 n) e) (omega arith)
-
-      pub comma_go : (get_or s i 0 ≡ 44 → ⊥) → i + comma_at (drop i s) ≡ i + 1 + comma_at (drop (i + 1) s)
-      comma_go m = rw (add-one, drop-cons s i 0 h, comma_cons_go _ _ (eqb-false (get_or s i 0) 34 n) m) (omega arith)
-
-      pub inside_go : i + comma_inside (drop i s) ≡ i + 1 + comma_inside (drop (i + 1) s)
-      inside_go = rw (add-one, drop-cons s i 0 h, inside_cons_go _ _ (eqb-false (get_or s i 0) 34 n)) (omega arith)
 
 -- the parts l of a text s whose first comma outside quotes stands at k
 pub record Splits (s : List ℕ) (k : ℕ) (l : List (List ℕ)) : Type 0 where

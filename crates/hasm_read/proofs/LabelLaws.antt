@@ -16,7 +16,6 @@ use Rattle.spec_sheet.specs.Scan.{is_digit}
 use Rattle.spec_hasm.specs.Text.{is_white, solid_length, trim}
 use Rattle.spec_hasm.specs.Comment.{is_quote, is_comment, outside, strip_comment}
 use Rattle.spec_hasm.specs.Line.{is_skipped, is_label}
-use Rattle.hasm_read.proofs.CommentLaws.{outside_cons_go}
 use Rattle.hasm_read.proofs.ShapeLaws.{label_short, skip_other}
 use Rattle.hasm_read.proofs.WhiteLaws.{back_solid}
 
@@ -29,13 +28,17 @@ solid : (b : ℕ) → 48 ≤ b → is_white b ≡ false
 unfolding is_white
 solid b h = rw (within_high 9 13 b (omega (arith, h)), ne_eqb b 32 (λ e. omega (arith, h, e)))
 
+outside_go : (before b : ℕ) (s : List ℕ) → is_quote before b ≡ false → is_comment (b ∷ s) ≡ false → outside before (b ∷ s) ≡ suc (outside b s)
+unfolding outside
+outside_go before b s e f = rw (e, f, outside)
+
 -- no comment starts in such bytes
 label_outside : (before : ℕ) (s : List ℕ) → all label_byte s ≡ true → outside before s ≡ length s
 unfolding all outside is_quote is_comment
 label_outside before [] e = refl
 label_outside before (b ∷ s) e =
     let h : 48 ≤ b = within_least 48 76 b (both_left (label_byte b) (all label_byte s) e) in
-    outside_cons_go before b s (rw (ne_eqb b 34 (λ q. omega (arith, h, q)))) (rw (ne_eqb b 47 (λ q. omega (arith, h, q))))
+    outside_go before b s (rw (ne_eqb b 34 (λ q. omega (arith, h, q)))) (rw (ne_eqb b 47 (λ q. omega (arith, h, q))))
     ∙ ap suc (label_outside b s (both_right (label_byte b) (all label_byte s) e))
 
 module _ (line : List ℕ) (l : is_label line ≡ true) where

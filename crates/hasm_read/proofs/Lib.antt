@@ -1,6 +1,8 @@
+pub mod RunLaws
 pub mod WhiteLaws
 pub mod MarkLaws
 pub mod QuoteLaws
+pub mod ScanLaws
 pub mod CommentLaws
 pub mod CommaLaws
 pub mod OperandLaws

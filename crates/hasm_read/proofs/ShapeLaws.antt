@@ -4,7 +4,7 @@ use mathlib.Core.Bool.{Bool, true, false}
 use Prim.Native.Nat.{ℕ, ◌-◌, ◌<◌}
 use native.Mathlib.Omega.{arith}
 use mathlib.Core.List.{List, [], ◌∷◌}
-use borrow.Author.Tests.{eq-eqb, ne_eqb}
+use borrow.Author.Tests.{eq-eqb, ne_eqb, eqb-true, eqb-false}
 use lib.Dec.{eqb}
 use lib.ListN.{length, get_or}
 use Rattle.lists.specs.Choice.{either}
@@ -24,6 +24,12 @@ opens_first a p (b ∷ s) h = rw (ne_eqb a b (λ e. h (sym e)))
 either_false : (b : Bool) → either b false ≡ b
 either_false true = refl
 either_false false = refl
+
+pub is_zero : (n : ℕ) → eqb n 0 ≡ true → n ≡ 0
+is_zero n e = eqb-true n 0 e
+
+pub not_empty : (s : List ℕ) → eqb (length s) 0 ≡ false → length s ≡ 0 → ⊥
+not_empty s e = eqb-false (length s) 0 e
 
 pub skip_empty : (s : List ℕ) → length s ≡ 0 → is_skipped s ≡ true
 unfolding is_skipped

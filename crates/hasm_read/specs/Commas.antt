@@ -1,5 +1,5 @@
 -- Where the first comma outside quotes stands. Assumes nothing.
-use Rattle.std.specs.Prelude.{ℕ, suc, List, [], ◌∷◌, eqb}
+use Rattle.std.specs.Prelude.{ℕ, suc, Bool, List, [], ◌∷◌, eqb, get_or}
 use Rattle.lists.specs.Choice.{pick}
 
 -- how many bytes stand before it, all of them where there is none, from outside or inside quotes on; "the operand splitter
@@ -15,3 +15,7 @@ unfoldable mutual
 
 abbrev pub comma_at : List ℕ → ℕ
 comma_at s = comma_outside s
+
+-- a comma comes next
+abbrev pub is_comma : List ℕ → Bool
+is_comma s = eqb (get_or s 0 0) 44

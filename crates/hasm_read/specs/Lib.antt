@@ -1,4 +1,3 @@
-pub mod Spaces
 pub mod Quotes
 pub mod Commas
 pub mod Lines

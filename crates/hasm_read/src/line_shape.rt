@@ -1,44 +1,31 @@
 // Lines that are skipped, and labels. Both are asked of a line without its comment and the white space around it; the test for a
 // label is asked of the whole line too.
 ghost use Rattle.std.specs.Prelude.{◌≡◌};
-ghost use Rattle.lists.specs.Scan.{all};
+ghost use Rattle.std.specs.List.{list_all};
 ghost use Rattle.spec_sheet.specs.Scan.{is_digit};
 ghost use Rattle.spec_hasm.specs.Line.{is_skipped, is_label};
 
-use slices::compare::{is_within, opens_at};
+use slices::compare::is_within;
 
 // An empty line or a banner. Most lines are neither, so the first byte is looked at before a text is compared.
 pub(crate) fn is_skipped(s: &[u8]) -> bool
     ensures { result ≡ is_skipped s.now }
 {
-    if s.len() == 0 {
+    if s.is_empty() {
         return true;
     }
-    let first = s[0];
-    if first == 102 {
-        return opens_at(s, 0, b"function ");
+    match s[0] {
+        b'f' => s.starts_with(b"function "),
+        b';' => s.starts_with(b"; "),
+        b'F' => s.starts_with(b"Function"),
+        _ => false,
     }
-    if first == 59 {
-        return opens_at(s, 0, b"; ");
-    }
-    if first == 70 {
-        return opens_at(s, 0, b"Function");
-    }
-    false
 }
 
-// The digits are one range, so two comparisons do, which are quicker than a class.
 fn all_digits(s: &[u8]) -> bool
-    ensures { result ≡ all is_digit s.now }
+    ensures { result ≡ list_all is_digit s.now }
 {
-    let mut i: usize = 0;
-    while i < s.len() {
-        if !is_within(48, 57, s[i]) {
-            return false;
-        }
-        i += 1;
-    }
-    true
+    s.iter().all(|&b| is_within(48, 57, b))
 }
 
 // `L`, digits or none, and a colon.
@@ -46,13 +33,7 @@ pub(crate) fn is_label(s: &[u8]) -> bool
     ensures { result ≡ is_label s.now }
 {
     let n = s.len();
-    if n < 2 {
-        return false;
-    }
-    if s[0] != 76 {
-        return false;
-    }
-    if s[n - 1] != 58 {
+    if n < 2 || s[0] != b'L' || s[n - 1] != b':' {
         return false;
     }
     all_digits(&s[1..n - 1])

@@ -1,5 +1,6 @@
 // The lines of a text, and the refusals of lines that are too long or no text.
 ghost use Rattle.std.specs.Prelude.{◌≡◌, ◌+◌, ◌≤◌, length, drop};
+ghost use Rattle.std.specs.List.{prefix_len};
 ghost use Rattle.lists.specs.Scan.{run, all};
 ghost use Rattle.spec_hasm.specs.Text.{lines_of};
 ghost use Rattle.spec_hasm.specs.Assemble.{Assembled, is_text_byte, unless_bad_line};
@@ -8,19 +9,20 @@ ghost use Rattle.hasm_read.specs.Refusals.{checked_or};
 
 use answers::refusal::Refusal;
 
+// How many bytes stand before the next LF.
+fn feed_distance(s: &[u8]) -> usize
+    ensures counted { result ≡ prefix_len not_feed s.now }
+    ensures inside { result ≤ length s.now }
+{
+    s.iter().take_while(|&&b| b != b'\n').count()
+}
+
 // Where the next LF stands, or the end.
 pub fn line_end(s: &[u8], at: usize) -> usize
     requires { at ≤ length s.now }
     ensures { (result ≡ at + run not_feed (drop at s.now)) × (result ≤ length s.now) }
 {
-    let mut i = at;
-    while i < s.len() {
-        if s[i] == 10 {
-            return i;
-        }
-        i += 1;
-    }
-    i
+    at + feed_distance(&s[at..])
 }
 
 // How many bytes the line has, without a CR where an LF follows.
@@ -56,14 +58,8 @@ fn is_text(line: &[u8]) -> bool
     slices::class::all_in(line, TEXT)
 }
 
-// Whether all lines are good, or the refusal of the first that is too long (3) or no text (2).
-#[derive(Clone, Copy)]
-pub enum Checked {
-    Good,
-    Refused(Refusal),
-}
-
-pub fn check_lines(text: &[u8]) -> Checked
+// Refuses the first line that is too long (3) or no text (2).
+pub fn check_lines(text: &[u8]) -> Result<(), Refusal>
     ensures { (rest : Assembled) → unless_bad_line 1 (lines_of text.now) rest ≡ checked_or result rest }
 {
     let mut at: usize = 0;
@@ -74,13 +70,13 @@ pub fn check_lines(text: &[u8]) -> Checked
         let long = limits::LINE_LIMIT < line.len();
         let good = is_text(line);
         if long {
-            return Checked::Refused(Refusal::LongLine(n));
+            return Err(Refusal::LongLine(n));
         }
         if !good {
-            return Checked::Refused(Refusal::BadByte(n));
+            return Err(Refusal::BadByte(n));
         }
         at = end + 1;
         n += 1;
     }
-    Checked::Good
+    Ok(())
 }

@@ -1,24 +1,17 @@
 use mathlib.Core.Path.{sym}
-use borrow.Author.Tests.{not-true, not-false}
 use Rattle.hasm_read.proofs.QuoteLaws.{no_quote, plain_quote, first_quote, later_quote}
 use Rattle.hasm_read.proofs.quote.is_quote_at.Goals as goal
+use Rattle.hasm_read.proofs.quote.is_quote_at.Goals.{then-not-escapes-via-then-not-escapes, then-not-escapes-via-else-not-escapes+then-i-eq0}
 
 pub returns-then-s-i-ne34 : goal.returns-then-s-i-ne34
-returns-then-s-i-ne34 c =
-    let a = c.args in
-    sym (no_quote a.s.now a.i a.escapes c.if-s-i-ne34.true)
+returns-then-s-i-ne34 c = sym (no_quote c.args.s.now c.args.i c.args.escapes c.if-s-i-ne34.true)
 
 pub returns-then-not-escapes : goal.returns-then-not-escapes
 returns-then-not-escapes c =
-    let a = c.args in
-    sym (plain_quote a.s.now a.i a.escapes (not-true _ c.if-not-escapes.true-raw) c.if-s-i-ne34.false)
-
-pub returns-then-i-eq0 : goal.returns-then-i-eq0
-returns-then-i-eq0 c =
-    let a = c.args in
-    sym (first_quote a.s.now a.i a.escapes (not-false _ c.if-not-escapes.false-raw) c.if-s-i-ne34.false c.if-i-eq0.true)
+    elim c.then-not-escapes.branch [
+      | then-not-escapes-via-then-not-escapes w ↦ sym (plain_quote c.args.s.now c.args.i c.args.escapes w.if-not-escapes.true c.if-s-i-ne34.false)
+      | then-not-escapes-via-else-not-escapes+then-i-eq0 w ↦ sym (first_quote c.args.s.now c.args.i c.args.escapes w.if-not-escapes.false c.if-s-i-ne34.false w.if-i-eq0.true)
+    ]
 
 pub returns : goal.returns
-returns c =
-    let a = c.args in
-    sym (later_quote a.s.now a.i a.escapes (not-false _ c.if-not-escapes.false-raw) c.if-s-i-ne34.false c.if-i-eq0.false)
+returns c = sym (later_quote c.args.s.now c.args.i c.args.escapes c.if-not-escapes.false c.if-s-i-ne34.false c.if-i-eq0.false)

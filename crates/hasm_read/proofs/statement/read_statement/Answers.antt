@@ -1,9 +1,7 @@
-use Prim.Native.Nat.{◌+◌, ◌-◌}
 use mathlib.Core.Path.{sym, ◌∙◌}
-use Rattle.lists.specs.Scan.{part}
-use Rattle.hasm_read.proofs.StatementLaws.{Cut, cut_at, cut_not_empty, no_statement, a_label, a_code, a_label_alone}
-use Rattle.hasm_read.proofs.LabelLaws.{label_room}
 use native.Mathlib.Omega.{arith}
+use Rattle.hasm_read.proofs.StatementLaws.{cut_not_empty, no_statement, a_label, a_code, a_label_alone}
+use Rattle.hasm_read.proofs.LabelLaws.{label_room}
 use Rattle.hasm_read.proofs.statement.read_statement.Goals as goal
 
 pub overflow_sub-size : goal.overflow_sub-size
@@ -13,13 +11,17 @@ pub returns-then-is_label : goal.returns-then-is_label
 returns-then-is_label c = λ types bytes ends. a_label_alone _ _ (sym c.is_label.ensures ∙ c.if-is_label.true)
 
 pub returns-then-is_skipped : goal.returns-then-is_skipped
-returns-then-is_skipped c = λ types bytes ends. no_statement _ _ _ _ ((let cut : let line = c.args.line.now in let a = c.skip-a.result in let n = c.solid_length-n.result in Cut line a n (part line a (a + n - a)) = cut_at c.args.line.now _ _ _ c.comment_start-c.ensures c.skip-a.ensures c.solid_length-n.ensures in cut)) _ (sym c.is_skipped.ensures ∙ c.if-is_skipped.true)
+returns-then-is_skipped c =
+    λ types bytes ends. no_statement c.args.line.now _ _ _ c.comment_start-c.ensures c.white_end-a.ensures c.solid_length-n.ensures _ (sym c.is_skipped.ensures ∙ c.if-is_skipped.true)
 
 pub overflow_sub-size-then-is_label-2 : goal.overflow_sub-size-then-is_label-2
-overflow_sub-size-then-is_label-2 c = cut_not_empty _ _ _ _ ((let cut : let line = c.args.line.now in let a = c.skip-a.result in let n = c.solid_length-n.result in Cut line a n (part line a (a + n - a)) = cut_at c.args.line.now _ _ _ c.comment_start-c.ensures c.skip-a.ensures c.solid_length-n.ensures in cut)) (sym c.is_skipped.ensures ∙ c.if-is_skipped.false)
+overflow_sub-size-then-is_label-2 c =
+    cut_not_empty c.args.line.now _ _ _ c.comment_start-c.ensures c.white_end-a.ensures c.solid_length-n.ensures (sym c.is_skipped.ensures ∙ c.if-is_skipped.false)
 
 pub returns-then-is_label-2 : goal.returns-then-is_label-2
-returns-then-is_label-2 c = λ types bytes ends. a_label _ _ _ _ ((let cut : let line = c.args.line.now in let a = c.skip-a.result in let n = c.solid_length-n.result in Cut line a n (part line a (a + n - a)) = cut_at c.args.line.now _ _ _ c.comment_start-c.ensures c.skip-a.ensures c.solid_length-n.ensures in cut)) _ (sym c.is_skipped.ensures ∙ c.if-is_skipped.false) (sym c.is_label-2.ensures ∙ c.if-is_label-2.true)
+returns-then-is_label-2 c =
+    λ types bytes ends. a_label c.args.line.now _ _ _ c.comment_start-c.ensures c.white_end-a.ensures c.solid_length-n.ensures _ (sym c.is_skipped.ensures ∙ c.if-is_skipped.false) (sym c.is_label-2.ensures ∙ c.if-is_label-2.true)
 
 pub returns : goal.returns
-returns c = λ types bytes ends. a_code _ _ _ _ ((let cut : let line = c.args.line.now in let a = c.skip-a.result in let n = c.solid_length-n.result in Cut line a n (part line a (a + n - a)) = cut_at c.args.line.now _ _ _ c.comment_start-c.ensures c.skip-a.ensures c.solid_length-n.ensures in cut)) _ (sym c.is_skipped.ensures ∙ c.if-is_skipped.false) (sym c.is_label-2.ensures ∙ c.if-is_label-2.false) _ (c.behind_offset-k.ensures.0 types bytes ends) c.behind_offset-k.ensures.1
+returns c =
+    λ types bytes ends. a_code c.args.line.now _ _ _ c.comment_start-c.ensures c.white_end-a.ensures c.solid_length-n.ensures _ (sym c.is_skipped.ensures ∙ c.if-is_skipped.false) (sym c.is_label-2.ensures ∙ c.if-is_label-2.false) _ (c.behind_offset-k.ensures.0 types bytes ends) c.behind_offset-k.ensures.1

@@ -7,4 +7,4 @@ pub slice_bounds-result-end : goal.slice_bounds-result-end
 slice_bounds-result-end c = sym (length-take-le _ _ c.solid_length-n.ensures.1)
 
 pub returns : goal.returns
-returns c = trim_is c.args.s.now _ _ c.skip-a.ensures.0 c.solid_length-n.ensures.0
+returns c = trim_is c.args.s.now _ _ c.white_end-a.ensures.0 c.solid_length-n.ensures.0

@@ -1,15 +1,22 @@
 -- A table of ASCII whose ends are in order is sound. Assumes nothing.
 use mathlib.Core.Path.{◌≡◌, refl, ap, ◌∙◌}
 use mathlib.Core.Bool.{true}
+use lib.Dec.{ltb}
+use Rattle.std.specs.Char.{is_ascii}
+use Rattle.std.specs.List.{prefix_len}
 use mathlib.Core.List.{List, [], ◌∷◌}
 use Prim.Native.Nat.{ℕ, zero, suc, ◌+◌, ◌-◌, ◌≤◌, ◌<◌}
 use native.Mathlib.Omega.{arith}
-use lib.ListN.{length, get_or, take, drop, get_or-eq_default}
-use lib.Seq.{get_or-drop}
-use borrow.Author.Tests.{le-leb}
+use lib.ListN.{length, get_or, take, drop}
+use lib.Seq.{get_or-drop, drop-drop}
+use borrow.Author.Tests.{le-leb, ltb-true}
+use Rattle.std.specs.Prelude.{None}
+use Rattle.std.specs.Str.{IsAscii}
+use Rattle.slices.specs.Answers.{found_of}
 use Rattle.lists.specs.Scan.{part}
 use Rattle.lists.specs.Found.Found.{missing}
-use Rattle.lists.proofs.Tests.{by_leb}
+use Rattle.lists.proofs.Parts.{tail_part}
+use Rattle.lists.proofs.Tests.{by_leb, by_test}
 use Rattle.spec_strings.specs.Utf8.{utf8_from, is_utf8}
 use Rattle.spec_strings.specs.Table.{well_formed, fault_from, fault}
 use Rattle.spec_strings.proofs.Utf8Laws.{step_ascii}
@@ -41,8 +48,12 @@ from_zero : (ends : List ℕ) → Rising ends → Rising (0 ∷ ends)
 from_zero ends r zero l = omega arith
 from_zero ends r (suc i) l = r i (omega arith)
 
-pub ascii_sound : (bytes ends : List ℕ) → ((i : ℕ) → get_or bytes i 0 < 128) → InOrder bytes ends → fault bytes ends ≡ missing
+ascii_sound : (bytes ends : List ℕ) → ((i : ℕ) → get_or bytes i 0 < 128) → InOrder bytes ends → fault bytes ends ≡ missing
 ascii_sound bytes ends h o = sound_from bytes ends 0 0 h (from_zero ends o.rising) o.inside
+
+-- so no entry is answered
+pub none_faulty : (bytes ends : List ℕ) → IsAscii bytes → InOrder bytes ends → found_of (fault bytes ends) ≡ None
+none_faulty bytes ends h o = ap found_of (ascii_sound bytes ends h o)
 
 -- ends that rise lie before the last
 to_last : (ends : List ℕ) → Rising ends → (d i : ℕ) → i + d < length ends → get_or ends i 0 ≤ get_or ends (i + d) 0
@@ -70,16 +81,20 @@ one_end ends i n m f l g e j h =
     (λ q. let z : i ≡ suc j = omega arith in let y : i - 1 ≡ j = omega arith in rw (y, z) at (g (omega arith)))
     (λ q. f (omega arith) j q)
 
--- a byte more that is no larger
-pub one_more : (s : List ℕ) (i most most' : ℕ) → ((j : ℕ) → j < i → get_or s j 0 ≤ most) → most ≤ most' → get_or s i 0 ≤ most' → (j : ℕ) → j < i + 1 → get_or s j 0 ≤ most'
-one_more s i most most' f l k j h =
-    by_leb i j
-    (λ q. let z : j ≡ i = omega arith in rw z k)
-    (λ q. omega (arith, f j q, l))
+-- a byte of ASCII between characters is passed over
+past_one : (b : ℕ) (s : List ℕ) → b < 128 → utf8_from 0 (b ∷ s) ≡ utf8_from 0 s
+unfolding utf8_from
+past_one b s h = ap (λ (st : ℕ). utf8_from st s) (step_ascii b h)
 
--- behind the last byte stands 0
-pub all_seen : (s : List ℕ) (i most : ℕ) → ((j : ℕ) → j < i → get_or s j 0 ≤ most) → length s ≤ i → (j : ℕ) → get_or s j 0 ≤ most
-all_seen s i most f l j =
-    by_leb (length s) j
-    (λ q. rw (get_or-eq_default s 0 q) (omega arith))
-    (λ q. f j (omega arith))
+-- and so are those in front
+pub past_ascii : (s : List ℕ) → utf8_from 0 s ≡ utf8_from 0 (drop (prefix_len is_ascii s) s)
+past_ascii [] = refl
+past_ascii (b ∷ s) =
+    let z : 1 + prefix_len is_ascii s ≡ suc (prefix_len is_ascii s) = omega arith in
+    by_test (ltb b 128)
+    (λ t. rw (t, z) (past_one b s (ltb-true b 128 t) ∙ past_ascii s))
+    (λ t. rw t refl)
+
+-- and in the rest of a text, as it is lent
+pub past_from : (st : ℕ) (s : List ℕ) (i : ℕ) {n : ℕ} → st ≡ 0 → n ≡ prefix_len is_ascii (take (length s - i) (drop i s)) → utf8_from st (drop i s) ≡ utf8_from st (drop (i + n) s)
+past_from st s i z e = rw (z, e, tail_part s i) (past_ascii (drop i s) ∙ ap (utf8_from 0) (drop-drop (prefix_len is_ascii (drop i s)) i s))

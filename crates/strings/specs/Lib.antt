@@ -3,3 +3,4 @@ pub mod Turns
 pub mod ReadTurns
 pub mod Keys
 pub mod Order
+pub mod States

@@ -1,7 +1,12 @@
 -- What one turn of the loop that escapes a text adds and carries on. Assumes nothing.
-use Rattle.std.specs.Prelude.{ℕ, Bool, not, List, [], eqb}
+use Rattle.std.specs.Prelude.{ℕ, Bool, not, Option, Some, None, List, [], eqb}
 use Rattle.lists.specs.Choice.{pick, both, within}
-use Rattle.spec_strings.specs.Escape.{escape}
+use Rattle.spec_strings.specs.Escape.{escape, escaped}
+
+-- a short escape, or else a longer text
+abbrev pub short_or : Option ℕ → List ℕ → List ℕ
+short_or (Some letter) long = escaped letter
+short_or None long = long
 
 -- the escape of a character that is whole, and nothing of one that is not
 abbrev pub whole_text : ℕ → ℕ → List ℕ

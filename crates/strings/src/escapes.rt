@@ -1,13 +1,14 @@
 // Escapes as the listing prints them: escape_js_string of util.rs.
-ghost use Rattle.std.specs.Prelude.{◌≡◌, [], ◌∷◌, ◌<◌, eqb};
+ghost use Rattle.std.specs.Prelude.{◌≡◌, [], ◌∷◌, ◌<◌};
 ghost use Rattle.lists.specs.Choice.{pick, within};
 ghost use Rattle.lists.specs.Scan.{all};
 ghost use Rattle.lists.specs.Write.{Put};
 ghost use Rattle.spec_strings.specs.Utf8.{lead_bits, bits_after};
-ghost use Rattle.spec_strings.specs.Escape.{escaped, unicode, escape, escape_text, quoted};
-ghost use Rattle.strings.specs.Turns.{whole_text, carried_bits, bare};
+ghost use Rattle.spec_strings.specs.Escape.{unicode, escape, escape_text, quoted};
+ghost use Rattle.strings.specs.Turns.{short_or, whole_text, carried_bits, bare};
+ghost use Rattle.strings.specs.States.{state_number};
 
-use crate::utf8::step;
+use crate::utf8::State;
 use numbers::print_hex::{put_hex_upper, put_hex_upper4};
 use slices::write::{put_byte, put_bytes};
 
@@ -24,106 +25,83 @@ fn put_unicode(out: &mut [u8], at: usize, c: u32) -> usize
     put_byte(out, b, 125)
 }
 
-// What stands behind the backslash for a character that has a short escape, and 0 for one that has none.
-fn letter_of(c: u32) -> u8
-    ensures { escape c ≡ pick (eqb result 0) (pick (within 32 126 c) (c ∷ []) (unicode c)) (escaped result) }
+// What stands behind the backslash for a character that has a short escape.
+#[tactic(auto, using(std::proofs::lemmas::Bool::Decides::nat_tests), unfolding(spec_strings::specs::Escape::escape))]
+fn letter_of(c: u32) -> Option<u8>
+    ensures { escape c ≡ short_or result (pick (within 32 126 c) (c ∷ []) (unicode c)) }
 {
-    if c == 92 {
-        return 92;
+    match c {
+        34 => Some(34),
+        92 => Some(92),
+        10 => Some(110),
+        13 => Some(114),
+        9 => Some(116),
+        0 => Some(48),
+        _ => None,
     }
-    if 34 < c {
-        return 0;
-    }
-    if c == 34 {
-        return 34;
-    }
-    if c == 10 {
-        return 110;
-    }
-    if c == 13 {
-        return 114;
-    }
-    if c == 9 {
-        return 116;
-    }
-    if c == 0 {
-        return 48;
-    }
-    0
 }
 
 // A character that has no short escape.
 fn put_shown(out: &mut [u8], at: usize, c: u32) -> usize
     ensures { Put out.old at (pick (within 32 126 c) (c ∷ []) (unicode c)) out.new result }
 {
-    if c < 32 {
-        return put_unicode(out, at, c);
+    match c {
+        32..=126 => put_byte(out, at, c as u8),
+        _ => put_unicode(out, at, c),
     }
-    if 126 < c {
-        return put_unicode(out, at, c);
-    }
-    put_byte(out, at, c as u8)
 }
 
 pub fn put_escaped(out: &mut [u8], at: usize, c: u32) -> usize
     ensures { Put out.old at (escape c) out.new result }
 {
-    let letter = letter_of(c);
-    if letter == 0 {
+    let Some(letter) = letter_of(c) else {
         return put_shown(out, at, c);
-    }
+    };
     let a = put_byte(out, at, 92);
     put_byte(out, a, letter)
 }
 
+#[tactic(auto, using(std::proofs::lemmas::Bool::Decides::nat_tests), unfolding(spec_strings::specs::Utf8::lead_bits))]
 fn lead_bits(b: u8) -> u32
     ensures { result ≡ lead_bits b }
 {
     let n = b as u32;
-    if n < 128 {
-        return n;
+    match b {
+        0..=127 => n,
+        128..=191 => 0,
+        192..=223 => n - 192,
+        224..=239 => n - 224,
+        240..=255 => n - 240,
     }
-    if n < 192 {
-        return 0;
-    }
-    if n < 224 {
-        return n - 192;
-    }
-    if n < 240 {
-        return n - 224;
-    }
-    n - 240
 }
 
-fn bits_after(st: u8, acc: u32, b: u8) -> u32
+#[tactic(auto, using(std::proofs::lemmas::Bool::Decides::nat_tests), unfolding(spec_strings::specs::Utf8::bits_after))]
+fn bits_after(state: State, acc: u32, b: u8) -> u32
     requires { acc < 32768 }
-    ensures { result ≡ bits_after st acc b }
+    ensures { result ≡ bits_after (state_number state) acc b }
 {
-    if st == 0 {
+    if state.is_between() {
         return lead_bits(b);
     }
     let n = b as u32;
-    if n < 128 {
-        return acc * 64;
-    }
-    acc * 64 + (n - 128)
+    acc * 64 + n.saturating_sub(128)
 }
 
 // Writes the character if the state says that it is whole.
-fn put_whole(out: &mut [u8], at: usize, st: u8, c: u32) -> usize
-    ensures { Put out.old at (whole_text st c) out.new result }
+fn put_whole(out: &mut [u8], at: usize, state: State, c: u32) -> usize
+    ensures { Put out.old at (whole_text (state_number state) c) out.new result }
 {
-    if st == 0 {
+    if state.is_between() {
         return put_escaped(out, at, c);
     }
     at
 }
 
 // The bits that are carried on: none behind a whole character.
-fn carried(st: u8, bits: u32) -> u32
-    ensures { result ≡ carried_bits st bits }
+fn carried(state: State, bits: u32) -> u32
+    ensures { result ≡ carried_bits (state_number state) bits }
 {
-    if st == 0 { 0 } else { bits }
+    if state.is_between() { 0 } else { bits }
 }
 
 // One pass over the bytes: the reader's state, and the bits of the character begun.
@@ -131,19 +109,17 @@ fn put_characters(out: &mut [u8], at: usize, s: &[u8]) -> usize
     ensures { Put out.old at (escape_text s.now) out.new result }
 {
     let mut k = at;
-    let mut st: u8 = 0;
+    let mut state = State::Between;
     let mut acc: u32 = 0;
-    let mut i: usize = 0;
-    while i < s.len() {
-        let next = step(st, s[i]);
-        if next == 8 {
+    for &b in s {
+        let next = state.step(b);
+        if next.is_broken() {
             return k;
         }
-        let bits = bits_after(st, acc, s[i]);
+        let bits = bits_after(state, acc, b);
         k = put_whole(out, k, next, bits);
         acc = carried(next, bits);
-        st = next;
-        i += 1;
+        state = next;
     }
     k
 }

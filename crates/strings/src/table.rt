@@ -104,10 +104,11 @@ impl<'a> StringTable<'a> {
 
     // The first entry that is refused with 17. Most tables are ASCII with their ends in order, and are found sound without a walk
     // over entries and characters.
+    #[tactic(auto, using(crate::proofs::AsciiLaws::none_faulty))]
     pub fn find_fault(self) -> Option<usize>
         ensures { result ≡ found_of (fault self.entry.bytes.now self.entry.ends.now) }
     {
-        if crate::utf8::largest(self.bytes) < 128 && self.in_order() {
+        if self.bytes.is_ascii() && self.in_order() {
             return None;
         }
         self.walk_entries()

@@ -6,19 +6,16 @@ ghost use Rattle.strings.specs.ReadTurns.{read_text, slash_after};
 
 use slices::write::put_byte;
 
+#[tactic(auto, using(std::proofs::lemmas::Bool::Decides::nat_tests), unfolding(spec_strings::specs::Escape::meant))]
 fn meant_by(b: u8) -> u8
     ensures { result ≡ meant b }
 {
-    if b == 110 {
-        return 10;
+    match b {
+        110 => 10,
+        116 => 9,
+        114 => 13,
+        _ => b,
     }
-    if b == 116 {
-        return 9;
-    }
-    if b == 114 {
-        return 13;
-    }
-    b
 }
 
 // What one byte between the quotes adds, where `slash` says that a backslash came just before.
@@ -48,11 +45,9 @@ pub fn put_unescaped(out: &mut [u8], at: usize, s: &[u8]) -> usize
 {
     let mut k = at;
     let mut slash = false;
-    let mut i: usize = 0;
-    while i < s.len() {
-        k = put_read(out, k, slash, s[i]);
-        slash = slash_after(slash, s[i]);
-        i += 1;
+    for &b in s {
+        k = put_read(out, k, slash, b);
+        slash = slash_after(slash, b);
     }
     k
 }

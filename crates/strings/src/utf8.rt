@@ -1,136 +1,120 @@
 // UTF-8 as the definition reads it: one state and one byte at a time.
-ghost use Rattle.std.specs.Prelude.{◌≡◌, ℕ, ◌≤◌, length, get_or, drop};
+ghost use Rattle.std.specs.Prelude.{◌≡◌, ◌≤◌, eqb, length};
+ghost use Rattle.std.specs.Char.{is_ascii};
+ghost use Rattle.std.specs.List.{prefix_len};
 ghost use Rattle.lists.specs.Choice.{pick, within};
-ghost use Rattle.spec_strings.specs.Utf8.{broken, after_lead, after_next, step, utf8_from, is_utf8};
+ghost use Rattle.spec_strings.specs.Utf8.{broken, after_lead, after_next, step, is_utf8};
+ghost use Rattle.strings.specs.States.{state_number};
 
 use slices::compare::is_within;
 
+// Where a reader stands: between characters, with so many continuation bytes to come, behind a lead byte that not every
+// continuation byte may follow, or behind a byte that fits nowhere.
+#[derive(Clone, Copy)]
+pub enum State {
+    Between,
+    OneMore,
+    TwoMore,
+    ThreeMore,
+    BehindE0,
+    BehindEd,
+    BehindF0,
+    BehindF4,
+    Broken,
+}
+
 // The state behind the first byte of a character.
-fn after_lead(b: u8) -> u8
-    ensures { result ≡ after_lead b }
+#[tactic(auto, using(std::proofs::lemmas::Bool::Decides::nat_tests), unfolding(spec_strings::specs::Utf8::after_lead))]
+fn after_lead(b: u8) -> State
+    ensures { state_number result ≡ after_lead b }
 {
-    if b < 128 {
-        return 0;
+    match b {
+        0..=127 => State::Between,
+        194..=223 => State::OneMore,
+        224 => State::BehindE0,
+        237 => State::BehindEd,
+        225..=239 => State::TwoMore,
+        240 => State::BehindF0,
+        241..=243 => State::ThreeMore,
+        244 => State::BehindF4,
+        _ => State::Broken,
     }
-    if b < 194 {
-        return 8;
-    }
-    if b < 224 {
-        return 1;
-    }
-    if b == 224 {
-        return 4;
-    }
-    if b == 237 {
-        return 5;
-    }
-    if b < 240 {
-        return 2;
-    }
-    if b == 240 {
-        return 6;
-    }
-    if b < 244 {
-        return 3;
-    }
-    if b == 244 {
-        return 7;
-    }
-    8
 }
 
 // The state `to` behind a continuation byte from lo to hi, and the broken one behind any other.
-fn to_or_broken(lo: u8, hi: u8, b: u8, to: u8) -> u8
-    ensures { result ≡ pick (within lo hi b) to broken }
+fn to_or_broken(lo: u8, hi: u8, b: u8, to: State) -> State
+    ensures { state_number result ≡ pick (within lo hi b) (state_number to) broken }
 {
     if is_within(lo, hi, b) {
-        return to;
+        to
+    } else {
+        State::Broken
     }
-    8
 }
 
-fn after_next(st: u8, b: u8) -> u8
-    ensures { result ≡ after_next st b }
-{
-    if st == 1 {
-        return to_or_broken(128, 191, b, 0);
-    }
-    if st == 2 {
-        return to_or_broken(128, 191, b, 1);
-    }
-    if st == 3 {
-        return to_or_broken(128, 191, b, 2);
-    }
-    if st == 4 {
-        return to_or_broken(160, 191, b, 1);
-    }
-    if st == 5 {
-        return to_or_broken(128, 159, b, 1);
-    }
-    if st == 6 {
-        return to_or_broken(144, 191, b, 2);
-    }
-    if st == 7 {
-        return to_or_broken(128, 143, b, 2);
-    }
-    8
-}
-
-pub fn step(st: u8, b: u8) -> u8
-    ensures { result ≡ step st b }
-{
-    if st == 0 {
-        return after_lead(b);
-    }
-    after_next(st, b)
-}
-
-// Most bytes are ASCII, which changes nothing between characters: a run of it costs one test a byte.
-fn skip_ascii(s: &[u8], from: usize, st: u8) -> usize
-    requires { from ≤ length s.now }
-    ensures { (result ≤ length s.now) × (from ≤ result)
-        × (utf8_from st (drop from s.now) ≡ utf8_from st (drop result s.now)) }
-{
-    if st != 0 {
-        return from;
-    }
-    let mut i = from;
-    while i < s.len() {
-        if 127 < s[i] {
-            return i;
+impl State {
+    // The state behind a continuation byte.
+    #[tactic(auto, unfolding(spec_strings::specs::Utf8::after_next))]
+    fn after_next(self, b: u8) -> State
+        ensures { state_number result ≡ after_next (state_number self) b }
+    {
+        match self {
+            State::OneMore => to_or_broken(128, 191, b, State::Between),
+            State::TwoMore => to_or_broken(128, 191, b, State::OneMore),
+            State::ThreeMore => to_or_broken(128, 191, b, State::TwoMore),
+            State::BehindE0 => to_or_broken(160, 191, b, State::OneMore),
+            State::BehindEd => to_or_broken(128, 159, b, State::OneMore),
+            State::BehindF0 => to_or_broken(144, 191, b, State::TwoMore),
+            State::BehindF4 => to_or_broken(128, 143, b, State::TwoMore),
+            State::Between | State::Broken => State::Broken,
         }
-        i += 1;
     }
-    i
+
+    // The state behind one byte more.
+    #[tactic(auto, unfolding(spec_strings::specs::Utf8::step))]
+    pub fn step(self, b: u8) -> State
+        ensures { state_number result ≡ step (state_number self) b }
+    {
+        match self {
+            State::Between => after_lead(b),
+            _ => self.after_next(b),
+        }
+    }
+
+    // Whether the bytes so far end with a whole character.
+    pub fn is_between(self) -> bool
+        ensures { result ≡ eqb (state_number self) 0 }
+    {
+        matches!(self, State::Between)
+    }
+
+    // Whether a byte fits nowhere.
+    pub fn is_broken(self) -> bool
+        ensures { result ≡ eqb (state_number self) broken }
+    {
+        matches!(self, State::Broken)
+    }
+}
+
+// How many bytes in front are ASCII. Most bytes are, which changes nothing between characters: a run of them costs one test a byte.
+fn ascii_run(s: &[u8]) -> usize
+    ensures place { result ≡ prefix_len is_ascii s.now }
+    ensures within { result ≤ length s.now }
+{
+    s.iter().take_while(|b| b.is_ascii()).count()
 }
 
 pub fn is_utf8(s: &[u8]) -> bool
     ensures { result ≡ is_utf8 s.now }
 {
-    let mut st: u8 = 0;
-    let mut i = skip_ascii(s, 0, 0);
+    let mut state = State::Between;
+    let mut i = ascii_run(s);
     while i < s.len() {
-        st = step(st, s[i]);
-        i = skip_ascii(s, i + 1, st);
-    }
-    st == 0
-}
-
-fn larger(a: u8, b: u8) -> u8
-    ensures { (a ≤ result) × (b ≤ result) }
-{
-    if a < b { b } else { a }
-}
-
-// The largest byte, 0 where there is none. Nothing ends the loop early, so that it compiles to a few instructions for many bytes.
-pub(crate) fn largest(s: &[u8]) -> u8
-    ensures { (i : ℕ) → get_or s.now i 0 ≤ result }
-{
-    let mut most: u8 = 0;
-    let mut i: usize = 0;
-    while i < s.len() {
-        most = larger(most, s[i]);
+        state = state.step(s[i]);
         i += 1;
+        if state.is_between() {
+            i += ascii_run(&s[i..]);
+        }
     }
-    most
+    state.is_between()
 }

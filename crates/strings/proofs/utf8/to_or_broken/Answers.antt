@@ -1,8 +1,0 @@
-use mathlib.Core.Path.{sym, ◌∙◌}
-use Rattle.strings.proofs.utf8.to_or_broken.Goals as goal
-
-pub returns-then-is_within : goal.returns-then-is_within
-returns-then-is_within c = rw (sym c.is_within.ensures ∙ c.if-is_within.true)
-
-pub returns : goal.returns
-returns c = rw (sym c.is_within.ensures ∙ c.if-is_within.false)

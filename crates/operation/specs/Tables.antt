@@ -1,18 +1,17 @@
 -- What a look at a string table answers. Assumes nothing.
-use Rattle.std.specs.Prelude.{List, ℕ}
+use Rattle.std.specs.Prelude.{List, ℕ, Result, Ok, Err}
 use Rattle.lists.specs.Choice.{pick}
 use Rattle.lists.specs.Found.{Found}
 use Rattle.lists.specs.Found.Found.{found, missing}
 use Rattle.spec_strings.specs.Table.{is_too_large, fault}
+use Rattle.answers.specs.declared.refusal.Refusal.{Refusal}
 use Rattle.answers.specs.declared.refusal.Refusal.TheVariants.{BadString, TooLarge}
-use Rattle.operation.specs.declared.inputs.Inputs.{Inputs}
-use Rattle.operation.specs.declared.inputs.Inputs.TheVariants.{Ready, Refused}
 
--- 17 and the entry, else the largest opcode
-unfoldable pub unless_faulty : ℕ → Found → Inputs
-unless_faulty last (found id) = Refused (BadString id)
-unless_faulty last missing = Ready last
+-- 17 and the entry
+unfoldable pub unless_faulty : Found → Result (Unit {0}) Refusal
+unless_faulty (found id) = Err (BadString id)
+unless_faulty missing = Ok tt
 
 -- 18 of its strings and bytes, then 17 by entry
-unfoldable pub table_inputs : ℕ → List ℕ → List ℕ → Inputs
-table_inputs last bytes ends = pick (is_too_large bytes ends) (Refused TooLarge) (unless_faulty last (fault bytes ends))
+unfoldable pub table_check : List ℕ → List ℕ → Result (Unit {0}) Refusal
+table_check bytes ends = pick (is_too_large bytes ends) (Err TooLarge) (unless_faulty (fault bytes ends))

@@ -1,13 +1,10 @@
-use Rattle.operation.proofs.TableLaws.{were_ready, were_refused, rows_kept}
+use mathlib.Core.Path.{sym}
+use Rattle.sheet.proofs.AnswerLaws.{is_error}
 use Rattle.operation.proofs.UnderLaws.{table_refused, table_ready}
-use mathlib.Core.Path.{sym, ◌∙◌}
 use Rattle.operation.proofs.inputs.read_inputs.Goals as goal
 
-pub returns-in_default : goal.returns-in_default
-returns-in_default c =
-    let e = c.in_default.is in
-    let t = sym c.table_inputs-i.ensures ∙ e in
-    table_refused _ (rows_kept _ _ _ _ t) (were_refused _ _ _ _ t) e
+pub returns-in_err-check_table : goal.returns-in_err-check_table
+returns-in_err-check_table c = rw (is_error _ c.from_residual.ensures.1) (table_refused _ (sym c.in_err-check_table.ensures))
 
 pub returns : goal.returns
-returns c = table_ready (were_ready _ _ _ _ (sym c.table_inputs-i.ensures ∙ c.in-Ready.is)).goes_on c.read_tables.ensures
+returns c = table_ready (sym c.in_ok-check_table.ensures) c.read_tables.ensures

@@ -17,12 +17,5 @@ fn in_class(class: &[u64; 4], b: u8) -> bool
 pub fn all_in(s: &[u8], class: [u64; 4]) -> bool
     ensures { result ≡ all (in_class class) s.now }
 {
-    let mut i: usize = 0;
-    while i < s.len() {
-        if !in_class(&class, s[i]) {
-            return false;
-        }
-        i += 1;
-    }
-    true
+    s.iter().all(|&b| in_class(&class, b))
 }

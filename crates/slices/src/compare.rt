@@ -9,7 +9,7 @@ use crate::words::four_at;
 pub fn is_within(lo: u8, hi: u8, b: u8) -> bool
     ensures { result ≡ within lo hi b }
 {
-    if lo <= b { b <= hi } else { false }
+    lo <= b && b <= hi
 }
 
 // Whether two slices of one length, four bytes or more, hold the same bytes. They are compared by four, and at last the last four, so
@@ -39,14 +39,7 @@ pub fn same_bytes(s: &[u8], t: &[u8]) -> bool
     if 4 <= s.len() {
         return same_long(s, t);
     }
-    let mut i: usize = 0;
-    while i < s.len() {
-        if s[i] != t[i] {
-            return false;
-        }
-        i += 1;
-    }
-    true
+    s == t
 }
 
 // Whether s opens with p from `at` on.
@@ -54,17 +47,7 @@ pub fn opens_at(s: &[u8], at: usize, p: &[u8]) -> bool
     ensures { result ≡ opens p.now (drop at s.now) }
 {
     if s.len() < at {
-        return p.len() == 0;
+        return p.is_empty();
     }
-    if s.len() - at < p.len() {
-        return false;
-    }
-    let mut i: usize = 0;
-    while i < p.len() {
-        if s[at + i] != p[i] {
-            return false;
-        }
-        i += 1;
-    }
-    true
+    s[at..].starts_with(p)
 }

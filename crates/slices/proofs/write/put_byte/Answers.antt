@@ -6,8 +6,5 @@ use Rattle.slices.proofs.write.put_byte.Goals as goal
 pub returns-then-at-out : goal.returns-then-at-out
 returns-then-at-out c = wrote (omega arith) (omega arith) refl
 
-pub returns-then-at-lt18446744073709551615 : goal.returns-then-at-lt18446744073709551615
-returns-then-at-lt18446744073709551615 c = passed (omega arith) (omega arith) (omega arith) refl
-
-pub returns-else-at-lt18446744073709551615 : goal.returns-else-at-lt18446744073709551615
-returns-else-at-lt18446744073709551615 c = passed (omega arith) (omega arith) (omega arith) refl
+pub returns : goal.returns
+returns c = passed (omega arith) (omega arith) (omega arith) refl

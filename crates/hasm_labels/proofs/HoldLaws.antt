@@ -7,26 +7,30 @@ use native.Mathlib.Omega.{arith}
 use mathlib.Core.List.{List, [], ◌∷◌, ◌++◌, append-nil}
 use lib.ListN.{length, take, drop, set, length-set, length-append}
 use lib.Seq.{take_all, take-suc-set, take-append-le, set_out, drop-set-lt, drop-drop}
+use Rattle.std.specs.Prelude.{Some, None}
+use Rattle.std.specs.Option.{is_some}
 use Rattle.lists.specs.Choice.{pick}
 use Rattle.lists.specs.Scan.{same, part}
-use Rattle.lists.specs.Found.Found.{found, missing}
+use Rattle.lists.specs.Found.Found.{found}
+use Rattle.slices.specs.Answers.{found_of}
 use Rattle.lists.proofs.Tests.{by_test, by_leb, true_not_false}
 use Rattle.spec_hasm.specs.Assemble.{LabelLine, LabelAt, holding, label_offset}
 use Rattle.hasm_labels.specs.Slots.{label_in, labels_in}
 use Rattle.hasm_labels.specs.LongLabels.{is_long, long_of}
-use Rattle.hasm_labels.specs.Holding.{waiting_label, Waits, Noted, LongMore, Held}
+use Rattle.hasm_labels.specs.Holding.{part_in, waiting_label, Waits, Noted, LongMore, Held}
 use Rattle.hasm_labels.specs.Holding.LongMore.{none, one}
 use Rattle.hasm_labels.specs.declared.hold_label.Progress.{Progress}
+use Rattle.hasm_labels.specs.declared.hold_label.LabelPart.{LabelPart}
 use Rattle.hasm_labels.proofs.LabelLaws.{offset_more, labels_more}
 use Rattle.hasm_labels.proofs.LongLaws.{long_more, long_same}
 
 -- no label waits
-holding_none : (text : List ℕ) (p : Progress) (w : List LabelLine) → Waits text p w → p.waits ≡ false → holding w p.offset [] ≡ []
+holding_none : (text : List ℕ) (p : Progress) (w : List LabelLine) → Waits text p w → p.waiting ≡ None → holding w p.offset [] ≡ []
 unfolding holding
 holding_none text p [] h e = refl
-holding_none text p (l ∷ ls) h e = true_not_false p.waits h.0 e
+holding_none text p (l ∷ ls) h e = true_not_false (is_some p.waiting) h.0 (ap is_some e)
 
-pub held_none : (text t : List ℕ) (slots : List (List ℕ)) (p : Progress) → p.waits ≡ false → Held text t slots p slots p
+pub held_none : (text t : List ℕ) (slots : List (List ℕ)) (p : Progress) → p.waiting ≡ None → Held text t slots p slots p
 held_none text t slots p e =
     record {
       noted = λ slots₀ w u labels h. rw (holding_none text p w u e, append-nil labels) h;
@@ -37,9 +41,9 @@ held_none text t slots p e =
       place = λ n a b. b;
     }
 
-holding_one : (text : List ℕ) (p : Progress) (w : List LabelLine) → Waits text p w → p.waits ≡ true → holding w p.offset [] ≡ waiting_label text p ∷ []
+holding_one : (text : List ℕ) (p : Progress) (w : List LabelLine) → Waits text p w → is_some p.waiting ≡ true → holding w p.offset [] ≡ waiting_label text p ∷ []
 unfolding holding
-holding_one text p [] h e = true_not_false p.waits e h
+holding_one text p [] h e = true_not_false (is_some p.waiting) e (ap is_some h)
 holding_one text p (l ∷ ls) h e = rw h.1 refl
 
 -- the k + 1st of labels goes to the slot behind the first k, where there is one
@@ -64,12 +68,12 @@ kept_more slots slots₀ slot k h =
     drop-set-lt (k + 1) slots k slot (omega arith) ∙ sym (drop-drop 1 k slots) ∙ ap (drop 1) h ∙ drop-drop 1 k slots₀
 
 -- a label waits: it is stored behind the others, if it is long, and p' counts it
-module _ (text t : List ℕ) (slots slots' : List (List ℕ)) (p p' : Progress) (w : p.waits ≡ true) where
+module _ (text t : List ℕ) (slots slots' : List (List ℕ)) (p p' : Progress) (w : is_some p.waiting ≡ true) where
   abbrev own : List ℕ
-  own = p.start ∷ p.size ∷ p.offset ∷ []
+  own = (part_in p.waiting).start ∷ (part_in p.waiting).size ∷ p.offset ∷ []
 
   abbrev own_text : List ℕ
-  own_text = part text p.start p.size
+  own_text = part text (part_in p.waiting).start (part_in p.waiting).size
 
   module _ (k : p'.kept ≡ pick (is_long own_text) (p.kept + 1) p.kept) (s : slots' ≡ pick (is_long own_text) (set slots p.kept own) slots) (c : p'.count ≡ p.count + 1) where
     at_most : p'.kept ≤ p.kept + 1
@@ -83,7 +87,7 @@ module _ (text t : List ℕ) (slots slots' : List (List ℕ)) (p p' : Progress) 
         (λ e. none (rw e at k) (long_same (waiting_label text p) e labels)))
 
     one_more : (slots₀ : List (List ℕ)) (waiting : List LabelLine) → Waits text p waiting → (labels : List LabelAt) → Noted text t slots₀ labels p slots
-        → label_offset (labels ++ (waiting_label text p ∷ [])) t ≡ pick p'.has (found p'.place) missing → Noted text t slots₀ (labels ++ holding waiting p.offset []) p' slots'
+        → p'.place ≡ found_of (label_offset (labels ++ (waiting_label text p ∷ [])) t) → Noted text t slots₀ (labels ++ holding waiting p.offset []) p' slots'
     one_more slots₀ waiting u labels h l =
         let counted = c ∙ ap (λ (n : ℕ). n + 1) h.counted ∙ sym (length-append labels (waiting_label text p ∷ [])) in
         rw (holding_one text p waiting u w)
@@ -111,24 +115,40 @@ module _ (text t : List ℕ) (slots slots' : List (List ℕ)) (p p' : Progress) 
           behind = rw (kept, stored) h.behind;
         }))
 
-    pub held_same : same own_text t ≡ true → p'.has ≡ true → p'.place ≡ p.offset → p'.offset ≡ p.offset → Held text t slots p slots' p'
-    held_same e f g o =
+    held_same : same own_text t ≡ true → p'.place ≡ Some p.offset → p'.offset ≡ p.offset → Held text t slots p slots' p'
+    held_same e f o =
         record {
-          noted = λ slots₀ waiting u labels h. one_more slots₀ waiting u labels h (offset_more labels (waiting_label text p) t ∙ rw (e, f, g));
+          noted = λ slots₀ waiting u labels h.
+              let z : label_offset (labels ++ (waiting_label text p ∷ [])) t ≡ found p.offset = offset_more labels (waiting_label text p) t ∙ rw e in
+              one_more slots₀ waiting u labels h (f ∙ sym (ap found_of z));
           long = long_one;
           offset = o;
           count = omega (arith, c);
           kept = at_most;
-          place = λ n a b. rw g a;
+          place = λ n a b. rw f a;
         }
 
-    pub held_other : same own_text t ≡ false → p'.has ≡ p.has → p'.place ≡ p.place → p'.offset ≡ p.offset → Held text t slots p slots' p'
-    held_other e f g o =
+    held_other : same own_text t ≡ false → p'.place ≡ p.place → p'.offset ≡ p.offset → Held text t slots p slots' p'
+    held_other e f o =
         record {
-          noted = λ slots₀ waiting u labels h. one_more slots₀ waiting u labels h (offset_more labels (waiting_label text p) t ∙ rw (e, f, g) h.last);
+          noted = λ slots₀ waiting u labels h.
+              let z : label_offset (labels ++ (waiting_label text p ∷ [])) t ≡ label_offset labels t = offset_more labels (waiting_label text p) t ∙ rw e in
+              one_more slots₀ waiting u labels h (f ∙ h.last ∙ sym (ap found_of z));
           long = long_one;
           offset = o;
           count = omega (arith, c);
           kept = at_most;
-          place = λ n a b. rw g b;
+          place = λ n a b. rw f b;
         }
+
+-- the same, by the part of the text where the label stands
+module _ (text t : List ℕ) (slots slots' : List (List ℕ)) (p p' : Progress) (q : LabelPart) (u : p.waiting ≡ Some q) (k : p'.kept ≡ pick (is_long (part text q.start q.size)) (p.kept + 1) p.kept)
+    (s : slots' ≡ pick (is_long (part text q.start q.size)) (set slots p.kept (q.start ∷ q.size ∷ p.offset ∷ [])) slots) (c : p'.count ≡ p.count + 1) where
+  here : q ≡ part_in p.waiting
+  here = sym (ap part_in u)
+
+  pub part_same : same (part text q.start q.size) t ≡ true → p'.place ≡ Some p.offset → p'.offset ≡ p.offset → Held text t slots p slots' p'
+  part_same e f o = held_same text t slots slots' p p' (ap is_some u) (rw here at k) (rw here at s) c (rw here at e) f o
+
+  pub part_other : same (part text q.start q.size) t ≡ false → p'.place ≡ p.place → p'.offset ≡ p.offset → Held text t slots p slots' p'
+  part_other e f o = held_other text t slots slots' p p' (ap is_some u) (rw here at k) (rw here at s) c (rw here at e) f o

@@ -7,20 +7,20 @@ use native.Mathlib.Numerals.{add-one}
 use native.Mathlib.Omega.{arith}
 use lib.ListN.{length, take, drop, get_or, replicate, length-append, get_or-append}
 use lib.Seq.{take-length, take-suc, length-take-le, get_or-append-add}
+use Rattle.std.specs.Prelude.{Some, None}
 use Rattle.lists.specs.Choice.{pick}
 use Rattle.lists.specs.Scan.{same}
 use Rattle.lists.specs.Found.Found.{found, missing}
 use Rattle.lists.proofs.Tests.{by_test, by_eqb}
 use Rattle.lists.proofs.Scans.{same_eq}
 use Rattle.slices.specs.Answers.{found_of}
-use Rattle.slices.specs.declared.search.Found.TheVariants.{At, Missing}
 use Rattle.spec_hasm.specs.Assemble.{LabelAt, label_offset}
 use Rattle.hash_index.specs.Hash.{bucket_of}
 use Rattle.hash_index.specs.Backward.{next_unit, WalkBack}
 use Rattle.hash_index.proofs.BackwardLaws.{last_most, back_none, back_more, word_before, word_here, back_start, back_next}
 use Rattle.hasm_labels.specs.Slots.{label_in, labels_in}
 use Rattle.hasm_labels.specs.Keys.{label_of, label_at, no_label, bucket_at, LabelsIndexed, KeyPut, offset_below}
-use Rattle.hasm_labels.specs.declared.own_label.LabelPlace.{LabelPlace}
+use Rattle.hasm_labels.specs.declared.label_entry.LabelPlace.{LabelPlace}
 use Rattle.hasm_labels.proofs.LabelLaws.{labels_next, offset_more, offset_none}
 
 -- the labels before one that is put behind them, and that one
@@ -124,7 +124,7 @@ module _ (ls : List LabelAt) (t : List ℕ) where
           let z : k ≡ k - 1 + 1 = omega arith in
           ap (offset_below ls t) z ∙ label_step (k - 1) o ∙ ap (λ (a : LabelAt). pick (same a.text t) (found a.offset) (offset_below ls t (k - 1))) (sym (q ∙ i.held (k - 1) o))
 
-      pub label_found : same (label_of text r).text t ≡ true → At r.offset ≡ found_of (label_offset ls t)
+      pub label_found : same (label_of text r).text t ≡ true → Some r.offset ≡ found_of (label_offset ls t)
       label_found p =
           let z : label_offset ls t ≡ found r.offset = sym all_labels ∙ w.same_answer ∙ here ∙ rw p in
           sym (ap found_of z)
@@ -133,7 +133,7 @@ module _ (ls : List LabelAt) (t : List ℕ) where
       label_next p = back_next (bucket_at m ls) m (length ls) index i.chained h (offset_below ls t) b passed k w l (here ∙ rw p)
 
   -- the end of the chain
-  pub label_nowhere : (m h k : ℕ) → WalkBack (bucket_at m ls) (length ls) h (offset_below ls t) k → k ≤ 0 → Missing ≡ found_of (label_offset ls t)
+  pub label_nowhere : (m h k : ℕ) → WalkBack (bucket_at m ls) (length ls) h (offset_below ls t) k → k ≤ 0 → None ≡ found_of (label_offset ls t)
   label_nowhere m h k w l =
       let z : k ≡ 0 = omega arith in
       let y : label_offset ls t ≡ missing = sym all_labels ∙ w.same_answer ∙ rw z (offset_none t) in

@@ -1,13 +1,14 @@
 -- One line of the pass over names and labels. Assumes nothing.
 use mathlib.Core.Path.{◌≡◌, refl, ap, sym, ◌∙◌}
-use mathlib.Core.Bool.{true, false}
 use Prim.Native.Nat.{ℕ, ◌+◌, ◌-◌, ◌*◌, ◌≤◌, ◌<◌}
 use native.Mathlib.Omega.{arith}
 use mathlib.Core.List.{List, [], ◌∷◌, ◌++◌, append_assoc}
 use lib.ListN.{length, drop, length-take}
 use lib.Seq.{take-take, drop-drop}
+use Rattle.std.specs.Prelude.{Some, None, Result, Ok, Err}
 use Rattle.lists.specs.Scan.{run, part}
 use Rattle.limits.specs.Limits.{text_limit}
+use Rattle.answers.specs.declared.refusal.Refusal.{Refusal}
 use Rattle.spec_inputs.specs.Context.{Context}
 use Rattle.spec_hasm.specs.Text.{lines_of}
 use Rattle.spec_hasm.specs.Line as definition
@@ -22,8 +23,6 @@ use Rattle.hasm_labels.specs.Holding.{LongMore, Held}
 use Rattle.hasm_labels.specs.Holding.LongMore.{none, one}
 use Rattle.hasm_labels.specs.NameReads.{code_of, Sized}
 use Rattle.hasm_labels.specs.Going.{Passed, CodeTaken, Going, Behind, Turned}
-use Rattle.hasm_labels.specs.declared.take_line.Step.{Step}
-use Rattle.hasm_labels.specs.declared.take_line.Step.TheVariants.{On, Refused}
 use Rattle.hasm_labels.specs.declared.hold_label.Progress.{Progress}
 use Rattle.hasm_labels.proofs.CodeSteps.{codes_nothing, codes_label, codes_code}
 use Rattle.hasm_read.specs.Statements.StatementIn.{none as Read-none, label as read-label, code as read-code}
@@ -31,10 +30,10 @@ use Rattle.hasm_read.specs.declared.statement.Statement.TheVariants.{Nothing, La
 
 -- the progress behind an instruction of k bytes, and behind a label
 abbrev passed : Progress → ℕ → Progress
-passed q k = record { waits = false; start = 0; size = 0; count = q.count; kept = q.kept; offset = q.offset + k; has = q.has; place = q.place }
+passed q k = record { waiting = None; count = q.count; kept = q.kept; offset = q.offset + k; place = q.place }
 
 abbrev label_read : Progress → ℕ → ℕ → Progress
-label_read p s m = record { waits = true; start = s; size = m; count = p.count; kept = p.kept; offset = p.offset; has = p.has; place = p.place }
+label_read p s m = record { waiting = Some (record { start = s; size = m }); count = p.count; kept = p.kept; offset = p.offset; place = p.place }
 
 -- how many are kept is all that they tell of the progress
 kept_same : {text : List ℕ} {p q : Progress} (k : ℕ) {before after : List LabelAt} → LongMore text p q before after → LongMore text p (passed q k) before after
@@ -49,8 +48,6 @@ code_passed e n s text t slots p slots' q k z h =
       bytes = k;
       sized = z;
       waits = refl;
-      start = refl;
-      size = refl;
       count = h.count;
       kept = h.kept;
       offset = ap (λ (i : ℕ). i + k) h.offset;
@@ -175,8 +172,8 @@ module _ (e : Context) (text t : List ℕ) (slots₀ : List (List ℕ)) (at n en
           going = record {
             near = omega arith;
             few = omega (arith, g.few, k);
-            start = omega (arith, q.start);
-            size = omega (arith, q.size);
+            start = rw q.waits (omega arith);
+            size = rw q.waits (omega arith);
             count = omega (arith, g.count, q.count, k);
             kept = omega (arith, g.kept, q.kept, k);
             offset = omega (arith, g.offset, q.offset, q.sized.short, k);
@@ -191,9 +188,9 @@ module _ (e : Context) (text t : List ℕ) (slots₀ : List (List ℕ)) (at n en
           long = q.long g.waiting g.waits g.taken;
         }
 
-    pub turn_code : (r : Step) → CodeTaken e n s text t slots p slots' r → Turned e text t slots₀ p g.taken (end + 1) n r slots'
-    turn_code (On p') d = code_on p' d
-    turn_code (Refused y) d = λ rest. names_here rest ∙ d g.waiting behind rest
+    pub turn_code : (r : Result Progress Refusal) → CodeTaken e n s text t slots p slots' r → Turned e text t slots₀ p g.taken (end + 1) n r slots'
+    turn_code (Ok p') d = code_on p' d
+    turn_code (Err y) d = λ rest. names_here rest ∙ d g.waiting behind rest
 
   -- by the line l that was read
   module _ (l : List ℕ) (f : l ≡ line_in text at end) where
@@ -205,7 +202,7 @@ module _ (e : Context) (text t : List ℕ) (slots₀ : List (List ℕ)) (at n en
         let v = was_label (statement_of e (line_in text at end)) (line_in text at end) a i (rw f at u) in
         turn_label b a i v.0 v.1
 
-    pub line_code : (a b : ℕ) → StatementIn (statement_of e l) l (Instruction a b) → (slots' : List (List ℕ)) (r : Step) → CodeTaken e n (part l a (b - a)) text t slots p slots' r
+    pub line_code : (a b : ℕ) → StatementIn (statement_of e l) l (Instruction a b) → (slots' : List (List ℕ)) (r : Result Progress Refusal) → CodeTaken e n (part l a (b - a)) text t slots p slots' r
         → Turned e text t slots₀ p g.taken (end + 1) n r slots'
     line_code a b u slots' r d =
         let v = was_code (statement_of e (line_in text at end)) (line_in text at end) a b (rw f at u) in

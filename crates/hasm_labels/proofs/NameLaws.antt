@@ -1,5 +1,5 @@
 -- Laws of an instruction's name and of how many operands it has. Assumes nothing.
-use mathlib.Core.Path.{◌≡◌, refl, ap, sym}
+use mathlib.Core.Path.{◌≡◌, refl, sym}
 use mathlib.Core.Bool.{Bool, true, false}
 use Prim.Native.Nat.{ℕ, suc, ◌+◌, ◌-◌, ◌≤◌, ◌<◌}
 use native.Mathlib.Omega.{arith}
@@ -7,13 +7,13 @@ use mathlib.Core.List.{List, [], ◌∷◌}
 use borrow.Author.Tests.{eq-eqb, ne_eqb}
 use lib.ListN.{length, take, drop}
 use lib.Seq.{drop-drop}
+use Rattle.std.specs.Prelude.{Some, None}
 use Rattle.lists.specs.Choice.{pick}
 use Rattle.lists.specs.Scan.{run}
-use Rattle.lists.specs.Found.{Found}
-use Rattle.lists.specs.Found.Found.{found, missing}
+use Rattle.lists.specs.Found.Found.{found}
 use Rattle.lists.proofs.Parts.{tail_part}
 use Rattle.slices.specs.Answers.{found_of}
-use Rattle.slices.specs.declared.search.Found.TheVariants.{At, Missing}
+use Rattle.slices.proofs.SearchLaws.{was_at, was_missing}
 use Rattle.spec_sheet.specs.Sheet.{find_name, has_name}
 use Rattle.spec_sheet.specs.Row.{length_of, count_of}
 use Rattle.spec_inputs.specs.Context.{Context}
@@ -34,18 +34,9 @@ found_inside s name k (r ∷ rows) o e = go (found_inside s name (suc k) rows o)
     go ih true f = let z : k ≡ o = cc f in omega (arith, z)
     go ih false f = omega (arith, ih f)
 
--- what the search for a name answered, in the type of the definition
-pub was_found : (x : Found) (o : ℕ) → At o ≡ found_of x → x ≡ found o
-was_found (found i) o e = let z : o ≡ i = cc e in ap found (sym z)
-was_found missing o e = absurd (let z : ◌≡◌ {A = ℕ} 0 1 = cc e in omega (arith, z))
-
-pub was_missing : (x : Found) → Missing ≡ found_of x → x ≡ missing
-was_missing (found i) e = absurd (let z : ◌≡◌ {A = ℕ} 0 1 = cc e in omega (arith, z))
-was_missing missing e = refl
-
 -- so it is below their number
-pub row_below : (s name : List ℕ) (rows : List (List ℕ)) (o : ℕ) → At o ≡ found_of (find_name s name 0 rows) → length rows ≡ 256 → o < 256
-row_below s name rows o e l = omega (arith, found_inside s name 0 rows o (was_found (find_name s name 0 rows) o e))
+pub row_below : (s name : List ℕ) (rows : List (List ℕ)) (o : ℕ) → Some o ≡ found_of (find_name s name 0 rows) → length rows ≡ 256 → o < 256
+row_below s name rows o e l = omega (arith, found_inside s name 0 rows o (was_at (find_name s name 0 rows) (sym e)))
 
 found_in_lem : (o : ℕ) → found_in (found o) ≡ o
 unfolding found_in
@@ -57,13 +48,13 @@ module _ (e : Context) (n : ℕ) (s : List ℕ) (k : ℕ) (p : k ≡ 0 + run is_
   unfolding instruction_name
   name_is = let z : run is_solid s ≡ k - 0 = omega (arith, p) in rw z
 
-  pub name_unknown : Missing ≡ found_of (opcode_named e (take (k - 0) s)) → RefusedBy e n s (UnknownName n)
+  pub name_unknown : None ≡ found_of (opcode_named e (take (k - 0) s)) → RefusedBy e n s (UnknownName n)
   unfolding unless_bad_name on_name
-  name_unknown f labels cs rest = rw (name_is, was_missing (opcode_named e (take (k - 0) s)) f)
+  name_unknown f labels cs rest = rw (name_is, was_missing (opcode_named e (take (k - 0) s)) (sym f))
 
-  module _ (o : ℕ) (f : At o ≡ found_of (opcode_named e (take (k - 0) s))) (a : ℕ) (q : a ≡ k + run is_white (drop k s)) where
+  module _ (o : ℕ) (f : Some o ≡ found_of (opcode_named e (take (k - 0) s))) (a : ℕ) (q : a ≡ k + run is_white (drop k s)) where
     named : opcode_named e (instruction_name s) ≡ found o
-    named = rw name_is (was_found (opcode_named e (take (k - 0) s)) o f)
+    named = rw name_is (was_at (opcode_named e (take (k - 0) s)) (sym f))
 
     counted : (given : ℕ) → given ≡ length (tokens (split_outside (take (length s - a) (drop a s)))) → length (instruction_operands s) ≡ given
     unfolding instruction_operands

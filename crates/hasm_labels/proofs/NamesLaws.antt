@@ -7,6 +7,7 @@ use mathlib.Core.List.{List, [], ◌++◌, append-nil}
 use lib.ListN.{length, take, drop}
 use lib.Seq.{take-nil}
 use Rattle.lists.specs.Scan.{run}
+use Rattle.slices.specs.Answers.{found_of}
 use Rattle.limits.specs.Limits.{text_limit}
 use Rattle.spec_inputs.specs.Context.{Context}
 use Rattle.spec_hasm.specs.Assemble.{Assembled, Code, LabelAt, codes_of, unless_bad_name, labels_from, label_offset}
@@ -40,7 +41,7 @@ going_start e text t slots =
       labels = refl;
       noted = record {
         counted = refl;
-        last = offset_none t;
+        last = sym (ap found_of (offset_none t));
         long = sym (ap length long_none);
         stored = labels_none text slots ∙ sym (take-nil (length slots)) ∙ ap (take (length slots)) (sym long_none);
         behind = refl;
@@ -82,14 +83,14 @@ going_all {e} {text} {at = at} {n} {p} g h =
 
 pub going_end : (e : Context) (text t : List ℕ) (slots₀ : List (List ℕ)) (at n : ℕ) (p : Progress) (slots : List (List ℕ)) (m : ℕ) (whole : Bool) (index : List ℕ) → Going e text t slots₀ at n p slots
     → (whole ≡ true → (any : List (List ℕ)) → LabelsIndexed true text any index m (long_of (labels_from e 0 (codes_of e text)))) → length text ≤ at → length text ≤ text_limit
-    → AllNamed e text t slots₀ slots m index (record { count = p.count; kept = p.kept; indexed = whole; has = p.has; place = p.place })
+    → AllNamed e text t slots₀ slots m index (record { count = p.count; kept = p.kept; indexed = whole; place = p.place })
 going_end e text t slots₀ at n p slots m whole index g i h s =
     let c = codes_none e n g.waiting text at h in
     let l = going_all g h in
     record {
       named = λ rest. g.names rest ∙ ap (λ (cs : List Code). unless_bad_name e cs rest) c ∙ no_names e rest;
       counted = g.noted.counted ∙ ap length (sym l);
-      place = ap (λ (ls : List LabelAt). label_offset ls t) l ∙ g.noted.last;
+      place = g.noted.last ∙ ap (λ (ls : List LabelAt). found_of (label_offset ls t)) (sym l);
       small = omega (arith, g.place, g.near);
       long = g.noted.long ∙ ap (λ (ls : List LabelAt). length (long_of ls)) (sym l);
       stored = g.noted.stored ∙ ap (λ (ls : List LabelAt). take (length slots) (long_of ls)) (sym l);

@@ -1,30 +1,41 @@
 -- The labels that instructions took, as the pass over a text's lines holds them. Assumes nothing.
-use Rattle.std.specs.Prelude.{◌≡◌, ℕ, ◌+◌, ◌≤◌, ◌<◌, true, false, List, [], ◌∷◌, ◌++◌, length, take, drop}
-use Rattle.lists.specs.Choice.{pick}
+use Rattle.std.specs.Prelude.{◌≡◌, ℕ, ◌+◌, ◌≤◌, ◌<◌, true, List, [], ◌∷◌, ◌++◌, length, take, drop, Option, Some, None}
+use Rattle.std.specs.Option.{is_some}
 use Rattle.lists.specs.Scan.{part}
-use Rattle.lists.specs.Found.Found.{found, missing}
+use Rattle.slices.specs.Answers.{found_of}
 use Rattle.spec_hasm.specs.Assemble.{LabelLine, LabelAt, holding, label_offset}
 use Rattle.hasm_labels.specs.Slots.{labels_in}
 use Rattle.hasm_labels.specs.LongLabels.{long_of}
 use Rattle.hasm_labels.specs.declared.hold_label.Progress.{Progress}
+use Rattle.hasm_labels.specs.declared.hold_label.LabelPart.{LabelPart}
 
 -- the pass in front of the first line
 abbrev pub at_start : Progress
-at_start = record { waits = false; start = 0; size = 0; count = 0; kept = 0; offset = 0; has = false; place = 0 }
+at_start = record { waiting = None; count = 0; kept = 0; offset = 0; place = None }
+
+-- where the text of a label stands, an empty one where there is none
+abbrev pub part_in : Option LabelPart → LabelPart
+part_in (Some w) = w
+part_in None = record { start = 0; size = 0 }
+
+-- an offset, 0 where there is none
+abbrev pub offset_in : Option ℕ → ℕ
+offset_in (Some k) = k
+offset_in None = 0
 
 -- the label that waits, at the offset where p stands
 abbrev pub waiting_label : List ℕ → Progress → LabelAt
-waiting_label text p = record { text = part text p.start p.size; offset = p.offset }
+waiting_label text p = record { text = part text (part_in p.waiting).start (part_in p.waiting).size; offset = p.offset }
 
 -- the label lines that wait for an instruction, the nearest first, of which the code knows only that one's text
 abbrev pub Waits : List ℕ → Progress → List LabelLine → Type 0
-Waits text p [] = p.waits ≡ false
-Waits text p (l ∷ ls) = (p.waits ≡ true) × (l.text ≡ part text p.start p.size)
+Waits text p [] = p.waiting ≡ None
+Waits text p (l ∷ ls) = (is_some p.waiting ≡ true) × (l.text ≡ part text (part_in p.waiting).start (part_in p.waiting).size)
 
 -- all numbers are below 2 ^ 32, also with a label or an instruction more
 pub record Small (p : Progress) : Type 0 where
-  pub start : p.start < 4294967296
-  pub size : p.size < 4294967296
+  pub start : (part_in p.waiting).start < 4294967296
+  pub size : (part_in p.waiting).size < 4294967296
   pub count : p.count < 4294967295
   pub kept : p.kept < 4294967295
   pub offset : p.offset < 4294967231
@@ -33,7 +44,7 @@ pub record Small (p : Progress) : Type 0 where
 -- behind them, which were `slots₀`, are as they were
 pub record Noted (text t : List ℕ) (slots₀ : List (List ℕ)) (labels : List LabelAt) (p : Progress) (slots : List (List ℕ)) : Type 0 where
   pub counted : p.count ≡ length labels
-  pub last : label_offset labels t ≡ pick p.has (found p.place) missing
+  pub last : p.place ≡ found_of (label_offset labels t)
   pub long : p.kept ≡ length (long_of labels)
   pub stored : labels_in text (take p.kept slots) ≡ take (length slots) (long_of labels)
   pub behind : drop p.kept slots ≡ drop p.kept slots₀
@@ -60,4 +71,4 @@ pub record Held (text t : List ℕ) (slots : List (List ℕ)) (p : Progress) (sl
   pub offset : p'.offset ≡ p.offset
   pub count : p'.count ≤ p.count + 1
   pub kept : p'.kept ≤ p.kept + 1
-  pub place : (n : ℕ) → p.offset ≤ n → p.place ≤ n → p'.place ≤ n
+  pub place : (n : ℕ) → p.offset ≤ n → offset_in p.place ≤ n → offset_in p'.place ≤ n

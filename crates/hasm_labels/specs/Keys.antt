@@ -7,7 +7,7 @@ use Rattle.hash_index.specs.Hash.{bucket_of}
 use Rattle.hash_index.specs.Backward.{next_unit, ChainedBack}
 use Rattle.spec_hasm.specs.Assemble.{LabelAt, label_offset}
 use Rattle.hasm_labels.specs.Slots.{label_in}
-use Rattle.hasm_labels.specs.declared.own_label.LabelPlace.{LabelPlace}
+use Rattle.hasm_labels.specs.declared.label_entry.LabelPlace.{LabelPlace}
 
 -- every byte but a colon
 abbrev pub not_colon : ℕ → Bool

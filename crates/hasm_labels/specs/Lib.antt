@@ -1,3 +1,4 @@
+pub mod Sources
 pub mod Holding
 pub mod Slots
 pub mod LongLabels

@@ -1,12 +1,10 @@
 -- What the name of an instruction and the number of its operands give. Assumes nothing.
-use Rattle.std.specs.Prelude.{◌≡◌, ℕ, ◌≤◌, List, ◌∷◌}
+use Rattle.std.specs.Prelude.{◌≡◌, ℕ, ◌≤◌, List, ◌∷◌, Result, Ok, Err}
 use Rattle.answers.specs.declared.refusal.Refusal.{Refusal}
 use Rattle.spec_inputs.specs.Context.{Context}
 use Rattle.spec_hasm.specs.Split.{instruction_name, instruction_operands}
 use Rattle.spec_hasm.specs.Assemble.{Assembled, LabelLine, Code, unless_bad_name, size_in}
 use Rattle.spec_hasm.specs.Assemble.Assembled.{not_assembled}
-use Rattle.hasm_labels.specs.declared.instruction_name.Named.{Named}
-use Rattle.hasm_labels.specs.declared.instruction_name.Named.TheVariants.{Size, Refused}
 
 -- the instruction s on line n, behind label lines
 abbrev pub code_of : ℕ → List LabelLine → List ℕ → Code
@@ -23,6 +21,6 @@ pub record Sized (e : Context) (n : ℕ) (s : List ℕ) (k : ℕ) : Type 0 where
   pub short : k ≤ 65
 
 -- "then 4 and 5 over all lines", of one instruction
-abbrev pub NameRead : Context → ℕ → List ℕ → Named → Type 0
-NameRead e n s (Size k) = Sized e n s k
-NameRead e n s (Refused x) = RefusedBy e n s x
+abbrev pub NameRead : Context → ℕ → List ℕ → Result ℕ Refusal → Type 0
+NameRead e n s (Ok k) = Sized e n s k
+NameRead e n s (Err x) = RefusedBy e n s x

@@ -2,11 +2,11 @@
 use Rattle.std.specs.Prelude.{List, [], ◌∷◌, ℕ, get_or}
 use Rattle.lists.specs.Scan.{part}
 use Rattle.spec_hasm.specs.Assemble.{LabelAt}
-use Rattle.hasm_labels.specs.declared.label_entry.Entry.{Entry}
+use Rattle.hasm_labels.specs.declared.label_entry.LabelPlace.{LabelPlace}
 
 -- what a slot holds: start and length of the label's text, and its offset
-abbrev pub slot_at : List (List ℕ) → ℕ → Entry
-slot_at slots k = let slot = get_or slots k [] in record { start = get_or slot 0 0; size = get_or slot 1 0; offset = get_or slot 2 0 }
+abbrev pub place_in : List ℕ → LabelPlace
+place_in slot = record { start = get_or slot 0 0; size = get_or slot 1 0; offset = get_or slot 2 0 }
 
 -- the label of a slot, and the labels of a list of slots
 abbrev pub label_in : List ℕ → List ℕ → LabelAt

@@ -9,5 +9,6 @@ pub mod label_target; // the offset of a label, by the index or from the text
 pub mod names_pass; // all lines
 pub mod own_label; // a label in one word, where too few entries are lent
 pub mod own_labels; // labels in the index that holds them
+pub mod source; // a text with what its names are read by
 pub mod take_line; // one line
 pub mod text_labels; // that index, of a text

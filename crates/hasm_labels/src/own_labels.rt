@@ -3,8 +3,9 @@ ghost use Rattle.std.specs.Prelude.{◌≡◌, true, ◌++◌, ℕ, ◌≤◌, �
 ghost use Rattle.hasm_labels.specs.Keys.{Buckets};
 ghost use Rattle.hasm_labels.specs.Owning.{OwnMore};
 
-use crate::hold_label::Progress;
-use crate::own_label::LabelPlace;
+use crate::hold_label::{LabelPart, Progress};
+use crate::label_entry::LabelPlace;
+use crate::own_label::START_LIMIT;
 
 // Empties an index of m heads, where there are any, and answers whether there are.
 pub(crate) fn start_index(index: &mut [u64], m: usize) -> bool
@@ -41,22 +42,22 @@ pub(crate) fn put_taken(
     if !crate::label_index::has_room(k + 1, index.len(), m) {
         return false;
     }
-    let start = p.start;
-    let size = p.size;
+    let Some(part) = p.waiting else {
+        return false;
+    };
+    let LabelPart { start, size } = part;
     let offset = p.offset;
-    if !crate::own_label::fits_word(
-        text,
-        LabelPlace {
-            start,
-            size,
-            offset,
-        },
-    ) {
+    let l = LabelPlace {
+        start,
+        size,
+        offset,
+    };
+    if !crate::own_label::fits_word(text, l) {
         return false;
     }
     let s = slices::part::part_of(text, start, size);
     let h = hash_index::hash::bucket_of(s, m);
-    let word = start + offset * crate::own_label::START_LIMIT;
+    let word = start + offset * START_LIMIT;
     hash_index::backward::put_key(index, m, h, k, word as u64);
     true
 }

@@ -16,7 +16,7 @@ pub loop-k-init : goal.loop-k-init
 loop-k-init c =
     let a = c.args in
     let b = c.requires.1 in
-    (omega arith, rw (labels_none a.text.now a.labels.now) (indexed_none false a.text.now a.labels.now a.index.now _ a.m c.empty_chains.ensures b.some b.few b.room), refl)
+    (rw (labels_none a.text.now a.labels.now) (indexed_none false a.text.now a.labels.now a.index.now _ a.m c.empty_chains.ensures b.some b.few b.room), refl)
 
 pub put_key-requires : goal.put_key-requires
 put_key-requires c =
@@ -25,8 +25,8 @@ put_key-requires c =
     let room = c.has_room.ensures (not-false _ c.if-not-has_room.false-raw) in
     let h = c.bucket_of-h in
     let t = c.loop-k-test.true in
-    let e = l.invariant.2 ∙ c.empty_chains.auto.index in
-    (h.ensures.1, omega (arith, room.0, e, t), omega (arith, room.1, t), omega arith, omega (arith, room.1, t, slot_heads a.text.now a.labels.now l.index a.m l.k l.invariant.1 (omega (arith, c.requires.0, t)) h.result h.ensures.1))
+    let e = l.invariant.1 ∙ c.empty_chains.auto.index in
+    (h.ensures.1, omega (arith, room.0, e, t), omega (arith, room.1, t), omega arith, omega (arith, room.1, t, slot_heads a.text.now a.labels.now l.index a.m l.k l.invariant.0 (omega (arith, c.requires.0, t)) h.result h.ensures.1))
 
 pub loop-k-preserved : goal.loop-k-preserved
 loop-k-preserved c =
@@ -35,15 +35,15 @@ loop-k-preserved c =
     let room = c.has_room.ensures (not-false _ c.if-not-has_room.false-raw) in
     let h = c.bucket_of-h in
     let t = c.loop-k-test.true in
-    let e = l.invariant.2 ∙ c.empty_chains.auto.index in
+    let e = l.invariant.1 ∙ c.empty_chains.auto.index in
     let s = c.put_key in
     let b = h.ensures.0 ∙ ap (bucket_of a.m) c.label_text-s.ensures in
     let put : KeyPut a.m h.result l.k 0 l.index _ = record { bucket = h.ensures.1; room = omega (arith, room.0, e, t); small = omega arith; put = s.ensures } in
-    (omega arith, slot_more a.text.now a.labels.now l.index a.m l.k l.invariant.1 (omega (arith, c.requires.0, t)) _ (omega (arith, c.requires.0, t)) (rw b at put), s.auto.index ∙ l.invariant.2)
+    (slot_more a.text.now a.labels.now l.index a.m l.k l.invariant.0 (omega (arith, c.requires.0, t)) _ (omega (arith, c.requires.0, t)) (rw b at put), s.auto.index ∙ l.invariant.1)
 
 pub returns : goal.returns
 returns c =
     let l = c.loop-k in
     let a = c.args in
     let z : l.k ≡ a.n = omega arith in
-    λ e. rw z at l.invariant.1
+    λ e. rw z at l.invariant.0

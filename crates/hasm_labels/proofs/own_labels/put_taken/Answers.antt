@@ -7,6 +7,7 @@ use Rattle.lists.proofs.Tests.{true_not_false}
 use Rattle.hash_index.specs.Hash.{bucket_of}
 use Rattle.hasm_labels.specs.Keys.{start_limit, KeyPut}
 use Rattle.hasm_labels.specs.Owning.OwnMore.{none, one}
+use Rattle.hasm_labels.proofs.OwnLaws.{own_at}
 use Rattle.hasm_labels.proofs.own_labels.put_taken.Goals as goal
 
 pub returns-then-not-whole : goal.returns-then-not-whole
@@ -50,6 +51,7 @@ returns c = λ e.
     let h = c.bucket_of-h in
     let f = c.fits_word.ensures (not-false _ c.if-not-fits_word.false-raw) in
     let room = c.has_room.ensures (not-false _ c.if-not-has_room.false-raw) in
+    let q = c.in-Some.part in
     let b = h.ensures.0 ∙ ap (bucket_of a.m) c.part_of-s.ensures in
-    let put : KeyPut a.m h.result a.p.kept (a.p.start + a.p.offset * start_limit) a.index.now _ = record { bucket = h.ensures.1; room = omega (arith, room.0); small = omega (arith, f.0, f.1); put = c.put_key.ensures } in
-    (not-false _ c.if-not-whole.false-raw, one c.if-long-k.false (record { start = f.0; offset = f.1; size = f.2; put = rw b at put }))
+    let put : KeyPut a.m h.result a.p.kept (q.start + a.p.offset * start_limit) a.index.now _ = record { bucket = h.ensures.1; room = omega (arith, room.0); small = omega (arith, f.0, f.1); put = c.put_key.ensures } in
+    (not-false _ c.if-not-whole.false-raw, one c.if-long-k.false (own_at a.text.now a.m a.p a.index.now _ q c.in-Some.is f.0 f.1 f.2 (rw b at put)))

@@ -7,7 +7,7 @@ use Rattle.lists.specs.Scan.{same}
 use Rattle.hash_index.proofs.BackwardLaws.{back_falls}
 use Rattle.hasm_labels.specs.Keys.{bucket_at}
 use Rattle.hasm_labels.proofs.LabelWalk.{label_start, label_found, label_next, label_nowhere}
-use Rattle.hasm_labels.proofs.label_index.find_indexed.Goals as goal
+use Rattle.hasm_labels.proofs.label_target.Labels.find_indexed.Goals as goal
 
 pub bucket_of-h-requires : goal.bucket_of-h-requires
 bucket_of-h-requires c = let i = c.requires.indexed in (i.some, i.few)
@@ -23,21 +23,21 @@ loop-k-init c =
 pub overflow_add-word : goal.overflow_add-word
 overflow_add-word c = let p = c.requires in let w = (c.loop-k.invariant p.labels p.indexed).reached in omega (arith, w, p.indexed.chained.room)
 
-pub offset_bounds-index-m : goal.offset_bounds-index-m
-offset_bounds-index-m c = let p = c.requires in let w = (c.loop-k.invariant p.labels p.indexed).reached in omega (arith, w, p.indexed.chained.room)
+pub offset_bounds-self-m : goal.offset_bounds-self-m
+offset_bounds-self-m c = let p = c.requires in let w = (c.loop-k.invariant p.labels p.indexed).reached in omega (arith, w, p.indexed.chained.room)
 
-pub bounds-index-m : goal.bounds-index-m
-bounds-index-m c = let p = c.requires in let w = (c.loop-k.invariant p.labels p.indexed).reached in omega (arith, w, p.indexed.chained.room)
+pub bounds-self-m : goal.bounds-self-m
+bounds-self-m c = let p = c.requires in let w = (c.loop-k.invariant p.labels p.indexed).reached in omega (arith, w, p.indexed.chained.room)
 
-pub label_at-l-requires : goal.label_at-l-requires
-label_at-l-requires c = let p = c.requires in let w = (c.loop-k.invariant p.labels p.indexed).reached in λ o. omega (arith, w, p.indexed.lent o, c.loop-k-test.true)
+pub place_of-l-requires : goal.place_of-l-requires
+place_of-l-requires c = let p = c.requires in let w = (c.loop-k.invariant p.labels p.indexed).reached in λ o. omega (arith, w, p.indexed.lent o, c.loop-k-test.true)
 
 pub returns-then-same_bytes : goal.returns-then-same_bytes
 returns-then-same_bytes c =
     let a = c.args in
     let l = c.loop-k in
     let h = c.bucket_of-h in
-    let r = c.label_at-l in
+    let r = c.place_of-l in
     let e = ap (λ (s : List ℕ). same s a.t.now) (sym c.part_of-own.ensures) ∙ sym c.same_bytes.ensures ∙ c.if-same_bytes.true in
     λ ls i. label_found ls a.t.now i h.result h.ensures.0 h.ensures.1 l.k (l.invariant ls i) c.loop-k-test.true r.result r.ensures e
 
@@ -46,14 +46,14 @@ loop-k-smaller c =
     let p = c.requires in
     let l = c.loop-k in
     let t = c.loop-k-test.true in
-    omega (arith, c.next_in-k.ensures, t, back_falls (bucket_at c.args.m p.labels) c.args.m (length p.labels) c.args.index.now p.indexed.chained (l.k - 1) (omega (arith, t, (l.invariant p.labels p.indexed).reached)))
+    omega (arith, c.next_in-k.ensures, t, back_falls (bucket_at c.args.self.known.heads p.labels) c.args.self.known.heads (length p.labels) c.args.self.index.now p.indexed.chained (l.k - 1) (omega (arith, t, (l.invariant p.labels p.indexed).reached)))
 
 pub loop-k-preserved : goal.loop-k-preserved
 loop-k-preserved c =
     let a = c.args in
     let l = c.loop-k in
     let h = c.bucket_of-h in
-    let r = c.label_at-l in
+    let r = c.place_of-l in
     let e = ap (λ (s : List ℕ). same s a.t.now) (sym c.part_of-own.ensures) ∙ sym c.same_bytes.ensures ∙ c.if-same_bytes.false in
     λ ls i. rw c.next_in-k.ensures (label_next ls a.t.now i h.result h.ensures.0 h.ensures.1 l.k (l.invariant ls i) c.loop-k-test.true r.result r.ensures e)
 
@@ -61,4 +61,4 @@ pub returns : goal.returns
 returns c =
     let a = c.args in
     let l = c.loop-k in
-    λ ls i. label_nowhere ls a.t.now a.m c.bucket_of-h.result l.k (l.invariant ls i) c.loop-k-test.false
+    λ ls i. label_nowhere ls a.t.now a.self.known.heads c.bucket_of-h.result l.k (l.invariant ls i) c.loop-k-test.false

@@ -3,6 +3,8 @@ pub mod WordLaws
 pub mod WidthLaws
 pub mod AnswerLaws
 pub mod RoomLaws
+pub mod DigitLaws
+pub mod TurnLaws
 pub mod DigitTurns
 pub mod DecimalTurns
 pub mod HexTurns

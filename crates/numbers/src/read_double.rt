@@ -23,17 +23,12 @@ fn read_digits(s: &[u8], from: usize, sign: u64) -> Option<u64>
 fn read_whole(s: &[u8]) -> Option<u64>
     ensures { result ≡ number_of (read_whole s.now) }
 {
-    if s.len() == 0 {
-        return None;
+    match s {
+        [] => None,
+        [b'-', ..] => read_digits(s, 1, 0x8000_0000_0000_0000),
+        [b'+', ..] => read_digits(s, 1, 0),
+        _ => read_digits(s, 0, 0),
     }
-    let b = s[0];
-    if b == 45 {
-        return read_digits(s, 1, 0x8000_0000_0000_0000);
-    }
-    if b == 43 {
-        return read_digits(s, 1, 0);
-    }
-    read_digits(s, 0, 0)
 }
 
 // The 16 hex digits behind the `0x`.

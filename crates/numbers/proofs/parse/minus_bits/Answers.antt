@@ -7,5 +7,5 @@ pub returns-then-n-eq0 : goal.returns-then-n-eq0
 unfolding minus
 returns-then-n-eq0 c = rw c.if-n-eq0.true
 
-pub returns : goal.returns
-returns c = sym (minus_some c.args.n (omega arith))
+pub returns-else-n-eq0 : goal.returns-else-n-eq0
+returns-else-n-eq0 c = sym (minus_some c.args.n (omega arith))

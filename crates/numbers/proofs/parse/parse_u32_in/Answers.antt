@@ -1,19 +1,18 @@
-use Rattle.std.proofs.Common.{sym, ap, ◌∙◌}
+use Rattle.std.proofs.Common.{◌≡◌, get_or, sym, ap, ◌∙◌, arith}
 use Rattle.spec_numbers.proofs.ParseLaws.{u32_none, u32_plus, u32_plain}
 use Rattle.numbers.specs.Answers.{number_of}
 use Rattle.numbers.proofs.parse.parse_u32_in.Goals as goal
 
-pub returns-then-s-eq0 : goal.returns-then-s-eq0
-returns-then-s-eq0 c =
-    let a = c.args in
-    sym (ap number_of (u32_none a.base a.s.now c.if-s-eq0.true))
+pub returns-in-empty : goal.returns-in-empty
+returns-in-empty c = sym (ap number_of (u32_none c.args.base c.args.s.now (omega arith)))
 
-pub returns-then-s-eq43 : goal.returns-then-s-eq43
-returns-then-s-eq43 c =
+pub returns-in-43 : goal.returns-in-43
+returns-in-43 c =
     let a = c.args in
-    c.unsigned_value.ensures ∙ sym (ap number_of (u32_plus a.base a.s.now c.if-s-eq43.true))
+    let b : get_or a.s.now 0 0 ≡ 43 = omega arith in
+    c.unsigned_value.ensures ∙ sym (ap number_of (u32_plus a.base a.s.now b))
 
-pub returns : goal.returns
-returns c =
+pub returns-in_default : goal.returns-in_default
+returns-in_default c =
     let a = c.args in
-    c.unsigned_value-2.ensures ∙ sym (ap number_of (u32_plain a.base a.s.now c.if-s-eq43.false))
+    c.unsigned_value-in_default.ensures ∙ sym (ap number_of (u32_plain a.base a.s.now (λ e. omega (arith, e))))

@@ -1,4 +1,5 @@
 -- Laws of operands from values. Assumes nothing.
+use mathlib.Core.Logic.{◌⊎◌, inl, inr}
 use Rattle.std.proofs.Common.{◌≡◌, ℕ, zero, suc, ◌+◌, ◌*◌, ◌/◌, ◌%◌, ◌^◌, ◌≤◌, ◌<◌, Bool, true, false, ltb, leb, eqb, [], ℤ, Some, None, refl, ap, sym, ◌∙◌, arith, lt-ltb, le-ltb, le-leb, eq-eqb, ne_eqb}
 use native.Mathlib.Nat.{pow-suc, one-le-pow, pow-le-pow_right, lt_of_lt_of_le, le-div_iff_mul-le, one-mul, div-eq_of_lt, mul_assoc, mod-lt, mod-add-div'}
 use lib.ListN.{get_or-eq_default}
@@ -11,6 +12,9 @@ use Rattle.numbers.proofs.ByteSums.{bytes_bits}
 use Rattle.spec_numbers.specs.LittleEndian.{le_bytes}
 use Rattle.spec_sheet.specs.Types.{widths, width_of, kind_of}
 use Rattle.spec_sheet.proofs.TypeLaws.{kind_most}
+use Rattle.sheet.specs.Families.{family_number}
+use Rattle.sheet.specs.declared.family.Family.{Family}
+use Rattle.sheet.specs.declared.family.Family.TheVariants.{NoOperand, Reg, UInt, Str, Addr, Imm32, Double}
 use Rattle.spec_body.specs.Encode.{Fitted, good_pair, encode_unsigned, encode_addr8, encode_signed32, encode_double, encode_operand}
 use Rattle.spec_body.specs.Encode.Fitted.{fits, no_fit}
 use Rattle.spec_body.proofs.OperandLaws.{kind_width, kept, pair_bound, same_fits, no_fit_not}
@@ -94,6 +98,27 @@ no_double (U32 x) beside d = refl
 no_double (I8 x) beside d = refl
 no_double (I32 x) beside d = refl
 no_double (F64 x) beside d = absurd (d x refl)
+
+-- the families of the types that take an unsigned value, and the others
+pub family_low : (f : Family) (n : ℕ) → family_number f ≡ n → (f ≡ NoOperand) ⊎ ((f ≡ Reg) ⊎ ((f ≡ UInt) ⊎ (f ≡ Str))) → n ≤ 3
+unfolding family_number
+family_low NoOperand n e x = omega (arith, e)
+family_low Reg n e x = omega (arith, e)
+family_low UInt n e x = omega (arith, e)
+family_low Str n e x = omega (arith, e)
+family_low Addr n e x = elim x [ inl a ↦ (cc a) | inr y ↦ elim y [ inl a ↦ (cc a) | inr z ↦ elim z [ inl a ↦ (cc a) | inr a ↦ (cc a) ] ] ]
+family_low Imm32 n e x = elim x [ inl a ↦ (cc a) | inr y ↦ elim y [ inl a ↦ (cc a) | inr z ↦ elim z [ inl a ↦ (cc a) | inr a ↦ (cc a) ] ] ]
+family_low Double n e x = elim x [ inl a ↦ (cc a) | inr y ↦ elim y [ inl a ↦ (cc a) | inr z ↦ elim z [ inl a ↦ (cc a) | inr a ↦ (cc a) ] ] ]
+
+pub family_high : (f : Family) (n : ℕ) → family_number f ≡ n → (f ≡ NoOperand → ⊥) → (f ≡ Reg → ⊥) → (f ≡ UInt → ⊥) → (f ≡ Str → ⊥) → 3 < n
+unfolding family_number
+family_high NoOperand n e a b c d = absurd (a refl)
+family_high Reg n e a b c d = absurd (b refl)
+family_high UInt n e a b c d = absurd (c refl)
+family_high Str n e a b c d = absurd (d refl)
+family_high Addr n e a b c d = omega (arith, e)
+family_high Imm32 n e a b c d = omega (arith, e)
+family_high Double n e a b c d = omega (arith, e)
 
 -- a pair that is no shape fault has its bits within its kind, so that its value is written as the pair is encoded
 pub pair_kind : (kind bits : ℕ) → good_pair kind bits ≡ true → kind ≤ 5

@@ -10,6 +10,7 @@ ghost use Rattle.operand.specs.Write.{write_operand, fitted_of};
 
 use crate::value::{OperandValue, bits_of, value_of};
 use numbers::signed::{bits_i8, bits_i32, sign_extend8};
+use sheet::family::Family;
 
 // Whether a number has at most w bytes.
 pub fn fits_in(w: usize, bits: u64) -> bool
@@ -71,13 +72,13 @@ fn encode_double(v: OperandValue, beside: u64) -> Option<u64>
 pub fn write_operand(code: u8, v: OperandValue, beside: u64) -> Option<u64>
     ensures { result ≡ fitted_of (write_operand code v beside) }
 {
-    if sheet::operand_types::family(code) <= sheet::operand_types::STRING_FAMILY {
-        return encode_unsigned(code, v);
-    }
-    match code {
-        sheet::operand_types::ADDR8 => encode_addr8(v),
-        sheet::operand_types::DOUBLE => encode_double(v, beside),
-        _ => encode_signed32(v),
+    match sheet::operand_types::family(code) {
+        Family::NoOperand | Family::Reg | Family::UInt | Family::Str => encode_unsigned(code, v),
+        _ => match code {
+            sheet::operand_types::ADDR8 => encode_addr8(v),
+            sheet::operand_types::DOUBLE => encode_double(v, beside),
+            _ => encode_signed32(v),
+        },
     }
 }
 

@@ -2,6 +2,8 @@ pub mod WordLaws
 pub mod ShortNumbers
 pub mod LetterWords
 pub mod TypeWordLaws
+pub mod ByteClasses
+pub mod NamePlaces
 pub mod AnswerLaws
 pub mod KeyedLaws
 pub mod TypesLoop

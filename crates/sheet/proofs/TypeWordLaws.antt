@@ -2,12 +2,11 @@
 use mathlib.Core.Path.{◌≡◌, refl, ap, sym, ◌∙◌}
 use mathlib.Core.Bool.{true, false}
 use mathlib.Core.List.{List, ◌∷◌, ◌++◌}
-use Prim.Native.Nat.{ℕ, suc, ◌+◌, ◌/◌, ◌%◌, ◌^◌, ◌≤◌, ◌<◌}
+use Prim.Native.Nat.{ℕ, suc, ◌+◌, ◌*◌, ◌/◌, ◌%◌, ◌^◌, ◌≤◌, ◌<◌}
 use native.Mathlib.Omega.{arith}
 use lib.ListN.{length, drop, get_or, take-append-drop}
 use lib.Seq.{drop-drop, drop-cons}
 use borrow.Author.Tests.{ne_eqb}
-use Rattle.std.specs.Prelude.{Option, IfSome}
 use Rattle.lists.specs.Scan.{Bytes, all, same, run, part}
 use Rattle.lists.specs.Text.{text}
 use Rattle.lists.proofs.Parts.{part_length}
@@ -18,13 +17,12 @@ use Rattle.spec_sheet.specs.Types.{type_names, type_code_in, type_code}
 use Rattle.spec_sheet.specs.Scan.{is_name_byte, type_at}
 use Rattle.spec_sheet.specs.Scan.Step.{next}
 use Rattle.spec_sheet.proofs.ScanLaws.{type_here}
-use Rattle.sheet.specs.TypeWords.{Names, step_to}
-use Rattle.sheet.specs.declared.scan.Reading.{Reading}
+use Rattle.sheet.specs.TypeWords.{Names}
 use Rattle.sheet.proofs.WordLaws.{front_bytes, byte_behind}
 
 module _ (s : List ℕ) (at n : ℕ) (bs : Bytes s) (h : at + 8 ≤ length s) (l : n < 8) where
   -- a name and a byte that is no part of one
-  word_read : (code : ℕ) → is_name_byte (le (part s at 8) / 256 ^ n % 256) ≡ false → Names n (le (part s at 8) % 256 ^ n) code → (code ≡ 0 → ⊥) → type_at s at ≡ next code (at + n)
+  pub word_read : (code : ℕ) → is_name_byte (le (part s at 8) / 256 ^ n % 256) ≡ false → Names n (le (part s at 8) % 256 ^ n) code → (code ≡ 0 → ⊥) → type_at s at ≡ next code (at + n)
   word_read code e w z =
       let t : type_code (part s at n) ≡ code = rw (front_bytes s at n bs h (omega arith)) at w.0 in
       let a : all is_name_byte (part s at n) ≡ true = rw (front_bytes s at n bs h (omega arith)) at w.1 in
@@ -35,13 +33,17 @@ module _ (s : List ℕ) (at n : ℕ) (bs : Bytes s) (h : at + 8 ≤ length s) (l
       ap (run is_name_byte) d ∙ (run_stops is_name_byte (part s at n) (get_or s (at + n) 0) (drop (suc (at + n)) s) a b ∙ part_length s at n (omega arith)) in
       type_here s at n code (sym r) (sym t) z
 
-  pub word_step : (w code : ℕ) {r : Option Reading} → w ≡ le (part s at 8) → is_name_byte (w / 256 ^ n % 256) ≡ false → ((code ≡ 0 → ⊥) → Names n (w % 256 ^ n) code) → r ≡ step_to code (at + n)
-      → IfSome r (λ t. type_at s at ≡ next t.value t.next)
-  unfolding step_to
-  word_step w code f e named q =
-      by_eqb code 0
-      (λ z. rw (q, z) tt)
-      (λ z. rw (q, ne_eqb code 0 z) (word_read code (rw f at e) (rw f at (named z)) z))
+-- four to seven bytes as bits, and the bits below a shifted 1
+bits_of : (n : ℕ) → 4 ≤ n → n < 8 → (2 ^ (8 * n) ≡ 256 ^ n) × (1 * 2 ^ (8 * n) % 18446744073709551616 ≡ 256 ^ n)
+bits_of n h l =
+    by_eqb n 4 (λ e. rw e (refl, refl)) (λ a. by_eqb n 5 (λ e. rw e (refl, refl)) (λ b. by_eqb n 6 (λ e. rw e (refl, refl)) (λ c. let e : n ≡ 7 = omega arith in rw e (refl, refl))))
+
+-- a name that was read by shifts
+pub name_read : (s : List ℕ) (at n : ℕ) → Bytes s → at + 8 ≤ length s → 4 ≤ n → n < 8 → (w code : ℕ) → w ≡ le (part s at 8) → is_name_byte (w / 2 ^ (8 * n) % 256) ≡ false
+    → Names n (w % (1 * 2 ^ (8 * n) % 18446744073709551616)) code → 0 < code → type_at s at ≡ next code (at + n)
+name_read s at n bs h a b w code e z t o =
+    let q = bits_of n a b in
+    word_read s at n bs h b code (rw (sym q.0, sym e) z) (rw (sym q.1, sym e) t) (λ y. omega arith)
 
 -- the twelve names as numbers
 pub reg8 : Names 4 0x38676552 1

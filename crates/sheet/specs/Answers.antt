@@ -1,7 +1,6 @@
 -- The answers of the sheet's functions, as their definitions give them. Assumes nothing.
-use Rattle.std.specs.Prelude.{ℕ, Bool, true, false, Option, Some, None}
+use Rattle.std.specs.Prelude.{ℕ, Option, Some, None}
 use Rattle.spec_sheet.specs.Scan as scan
-use Rattle.spec_sheet.specs.Scan.{is_digit, is_name_byte}
 use Rattle.spec_sheet.specs.Scan.Step.{next, off}
 use Rattle.sheet.specs.declared.scan.Reading.{Reading}
 
@@ -14,8 +13,3 @@ step_of off = None
 unfoldable pub place_of : scan.Step → Option ℕ
 place_of (next value at) = Some at
 place_of off = None
-
--- what a word consists of: letters, digits and underscores, or digits alone
-abbrev pub is_word_byte : Bool → ℕ → Bool
-is_word_byte true b = is_name_byte b
-is_word_byte false b = is_digit b

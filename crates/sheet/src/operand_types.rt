@@ -1,7 +1,10 @@
 // The twelve operand types by their codes.
 ghost use Rattle.std.specs.Prelude.{◌≡◌, get_or};
+ghost use Rattle.std.specs.List.{position};
+ghost use Rattle.lists.specs.Scan.{same};
 ghost use Rattle.spec_sheet.specs.Types.{type_code, width_of, family_of, kind_of};
 ghost use Rattle.sheet.specs.Families.{family_number};
+ghost use Rattle.sheet.specs.TypeWords.{code_in};
 
 use crate::family::Family;
 use slices::compare::same_bytes;
@@ -11,47 +14,23 @@ pub const ADDR8: u8 = 9;
 
 pub const DOUBLE: u8 = 12;
 
-// The code of a type's name, or 0.
-pub fn type_code(word: &[u8]) -> u8
-    ensures { result ≡ type_code word.now }
+// The first of some texts that is the word.
+fn index_of(texts: &[&[u8]], word: &[u8]) -> Option<usize>
+    ensures { result ≡ position (λ t. same word.now t.now) texts.now }
 {
-    if same_bytes(word, b"Reg8") {
-        return 1;
-    }
-    if same_bytes(word, b"Reg32") {
-        return 2;
-    }
-    if same_bytes(word, b"UInt8") {
-        return 3;
-    }
-    if same_bytes(word, b"UInt16") {
-        return 4;
-    }
-    if same_bytes(word, b"UInt32") {
-        return 5;
-    }
-    if same_bytes(word, b"UInt8S") {
-        return 6;
-    }
-    if same_bytes(word, b"UInt16S") {
-        return 7;
-    }
-    if same_bytes(word, b"UInt32S") {
-        return 8;
-    }
-    if same_bytes(word, b"Addr8") {
-        return 9;
-    }
-    if same_bytes(word, b"Addr32") {
-        return 10;
-    }
-    if same_bytes(word, b"Imm32") {
-        return 11;
-    }
-    if same_bytes(word, b"Double") {
-        return 12;
-    }
-    0
+    texts.iter().position(|&text| same_bytes(word, text))
+}
+
+// The code of a type's name: the names stand in the order of their codes, from 1.
+pub fn type_code(word: &[u8]) -> Option<u8>
+    ensures { result ≡ code_in (type_code word.now) }
+{
+    let names: [&[u8]; 12] = [
+        b"Reg8", b"Reg32", b"UInt8", b"UInt16", b"UInt32", b"UInt8S", b"UInt16S", b"UInt32S",
+        b"Addr8", b"Addr32", b"Imm32", b"Double",
+    ];
+    let i = index_of(&names, word)?;
+    Some(i as u8 + 1)
 }
 
 // An entry of a table by type code, and 0 behind its end. A table is made anew at each use, so that these are thirteen bytes

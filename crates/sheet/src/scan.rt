@@ -1,12 +1,11 @@
 // Readings at a place of a text: each answers a value and the place behind it, or nothing where the text is not of the form.
 ghost use Rattle.std.specs.Prelude.{◌≡◌, ◌+◌, ◌-◌, ◌≤◌, length, drop, get_or, eqb, ltb, leb};
+ghost use Rattle.std.specs.List.{prefix_len};
 ghost use Rattle.lists.specs.Scan.{run, opens};
 ghost use Rattle.lists.specs.Text.{text};
-ghost use Rattle.spec_sheet.specs.Scan.{literal_at, is_upper, is_name_byte, number_at, keyed_at, may_be_name, name_at, type_at};
-ghost use Rattle.sheet.specs.Answers.{place_of, step_of, is_word_byte};
+ghost use Rattle.spec_sheet.specs.Scan.{literal_at, is_digit, is_upper, is_name_byte, number_at, keyed_at, may_be_name, name_at, type_at};
+ghost use Rattle.sheet.specs.Answers.{place_of, step_of};
 ghost use Rattle.lists.specs.Choice.{both};
-
-use slices::compare::is_within;
 
 // A value that was read, and the place behind it.
 #[derive(Clone, Copy)]
@@ -32,47 +31,57 @@ pub fn literal_at(s: &[u8], at: usize, p: &[u8]) -> Option<usize>
     None
 }
 
+// A letter, a digit or an underscore.
 pub fn is_name_byte(b: u8) -> bool
     ensures { result ≡ is_name_byte b }
 {
-    if is_within(65, 90, b) {
-        return true;
-    }
-    if is_within(97, 122, b) {
-        return true;
-    }
-    if is_within(48, 57, b) {
-        return true;
-    }
-    b == 95
+    b.is_ascii_alphanumeric() || b == 95
 }
 
-fn is_word_byte(letters: bool, b: u8) -> bool
-    ensures { result ≡ is_word_byte letters b }
+// The bytes from `at` on.
+fn rest(s: &[u8], at: usize) -> &[u8]
+    ensures { result.now ≡ drop at s.now }
 {
-    if letters {
-        is_name_byte(b)
-    } else {
-        is_within(48, 57, b)
-    }
+    &s[at.min(s.len())..]
 }
 
-// How many digits, or letters, digits and underscores, stand at `at`.
-fn count_word(s: &[u8], at: usize, letters: bool) -> usize
-    ensures { (result ≡ run (is_word_byte letters) (drop at s.now)) × (result ≤ length s.now - at) }
+#[tactic(auto, using(crate::proofs::ByteClasses::digit_class))]
+fn is_digit(b: u8) -> bool
+    ensures { result ≡ is_digit b }
 {
-    let mut i = at;
-    while i < s.len() {
-        if is_word_byte(letters, s[i]) {
-            i += 1;
-        } else {
-            return i - at;
-        }
-    }
-    i - at
+    b.is_ascii_digit()
 }
 
-// How many letters, digits and underscores stand at `at`. Letters are counted by words of eight bytes, which takes a third of the
+// How many digits stand in front.
+fn digits_in_front(s: &[u8]) -> usize
+    ensures counted { result ≡ prefix_len is_digit s.now }
+    ensures inside { result ≤ length s.now }
+{
+    s.iter().take_while(|&&b| is_digit(b)).count()
+}
+
+// How many letters, digits and underscores stand in front.
+fn name_bytes_in_front(s: &[u8]) -> usize
+    ensures counted { result ≡ prefix_len is_name_byte s.now }
+    ensures inside { result ≤ length s.now }
+{
+    s.iter().take_while(|&&b| is_name_byte(b)).count()
+}
+
+// The same at a place.
+fn digits_at(s: &[u8], at: usize) -> usize
+    ensures { (result ≡ run is_digit (drop at s.now)) × (result ≤ length s.now - at) }
+{
+    digits_in_front(rest(s, at))
+}
+
+fn name_bytes_at(s: &[u8], at: usize) -> usize
+    ensures { (result ≡ run is_name_byte (drop at s.now)) × (result ≤ length s.now - at) }
+{
+    name_bytes_in_front(rest(s, at))
+}
+
+// The same of a name, whose letters are counted by words of eight bytes, which takes a third of the
 // instructions; what follows them is a space as a rule, or else is counted by bytes.
 fn count_name(s: &[u8], at: usize) -> usize
     ensures { (result ≡ run is_name_byte (drop at s.now)) × (result ≤ length s.now - at) }
@@ -86,10 +95,10 @@ fn count_name(s: &[u8], at: usize) -> usize
             if s[i] == 32 {
                 return i - at;
             }
-            return i - at + count_word(s, i, true);
+            return i - at + name_bytes_at(s, i);
         }
     }
-    i - at + count_word(s, i, true)
+    i - at + name_bytes_at(s, i)
 }
 
 // Whether the k digits at `at` are more than one and open with 0.
@@ -97,14 +106,14 @@ fn is_padded(s: &[u8], at: usize, k: usize) -> bool
     requires { k ≤ length s.now - at }
     ensures { result ≡ both (ltb 1 k) (eqb (get_or s.now at 0) 48) }
 {
-    if 1 < k { s[at] == 48 } else { false }
+    1 < k && s[at] == 48
 }
 
 // A decimal number up to `most` without leading zeros.
 pub fn number_at(s: &[u8], at: usize, most: u64) -> Option<Reading>
     ensures { result ≡ step_of (number_at most s.now at) }
 {
-    let k = count_word(s, at, false);
+    let k = digits_at(s, at);
     if is_padded(s, at, k) {
         return None;
     }
@@ -133,34 +142,22 @@ pub fn keyed_at(s: &[u8], at: usize, key: &[u8], most: u64, tail: &[u8]) -> Opti
 fn opens_upper(s: &[u8], at: usize) -> bool
     ensures { result ≡ is_upper (get_or s.now at 0) }
 {
-    if at < s.len() {
-        is_within(65, 90, s[at])
-    } else {
-        false
-    }
+    at < s.len() && s[at].is_ascii_uppercase()
 }
 
 // Whether `Function` stands at `at`. Its first byte is tested before all else, since few names open with it.
 fn opens_function(s: &[u8], at: usize) -> bool
     ensures { result ≡ opens (text "Function") (drop at s.now) }
 {
-    if byte_is(s, at, 70) {
-        return slices::compare::opens_at(s, at, b"Function");
-    }
-    false
+    byte_is(s, at, 70) && slices::compare::opens_at(s, at, b"Function")
 }
 
 // Whether the k letters, digits and underscores at `at` may be an opcode's name.
+#[tactic(auto, unfolding(spec_sheet::specs::Scan::may_be_name))]
 fn may_be_name(s: &[u8], at: usize, k: usize) -> bool
     ensures { result ≡ may_be_name s.now at k }
 {
-    if 48 < k {
-        return false;
-    }
-    if opens_function(s, at) {
-        return false;
-    }
-    opens_upper(s, at)
+    k <= 48 && !opens_function(s, at) && opens_upper(s, at)
 }
 
 // An opcode's name: its length.
@@ -181,10 +178,7 @@ pub fn name_at(s: &[u8], at: usize) -> Option<Reading>
 pub(crate) fn has_left(s: &[u8], at: usize, n: usize) -> bool
     ensures { result ≡ leb (at + n) (length s.now) }
 {
-    if s.len() < n {
-        return false;
-    }
-    at <= s.len() - n
+    n <= s.len() && at <= s.len() - n
 }
 
 // The name of an operand type: its code. Each name has four bytes or more, and comparing them shows whether they are
@@ -192,19 +186,15 @@ pub(crate) fn has_left(s: &[u8], at: usize, n: usize) -> bool
 fn counted_type(s: &[u8], at: usize) -> Option<Reading>
     ensures { result ≡ step_of (type_at s.now at) }
 {
-    if has_left(s, at, 4) {
-        let k = 4 + count_word(s, at + 4, true);
-        let end = at + k;
-        let code = crate::operand_types::type_code(&s[at..end]);
-        if code == 0 {
-            return None;
-        }
-        return Some(Reading {
-            value: code as u64,
-            next: end,
-        });
+    if !has_left(s, at, 4) {
+        return None;
     }
-    None
+    let next = at + 4 + name_bytes_at(s, at + 4);
+    let code = crate::operand_types::type_code(&s[at..next])?;
+    Some(Reading {
+        value: code as u64,
+        next,
+    })
 }
 
 // The same, first by one word of eight bytes: the names of a well-formed sheet are all found so, at about half the cost, but for

@@ -14,7 +14,7 @@ unfolding text le_bytes digit_value digits_value unsigned_value
 returns-then-w-eq2319421361177848352 c =
     let s = c.args.s.now in
     let at = c.args.at in
-    let bs : Bytes s = λ i. (c.shared_slice_known-1.given i).fits in
+    let bs : Bytes s = λ i. (c.type_inv.s i).fits in
     let r = c.read_of_eight-w in
     let o = word_opens s at 8 bs (omega (arith, c.requires)) (omega arith) (text " jump=0 ") r.result 0x20303d706d756a20 r.ensures (whole_word s at bs (omega (arith, c.requires)) r.result r.ensures ∙ c.if-w-eq2319421361177848352.true) refl in
     let t = word_opens s (at + 8) 6 bs (omega (arith, c.requires)) (omega arith) (text "types=") c.read_of_eight.result 0x3d7365707974 c.read_of_eight.ensures c.if-read_of_eight-eq67565832403316.true refl in
@@ -25,7 +25,7 @@ unfolding text le_bytes digit_value digits_value unsigned_value
 returns-then-w-eq2319702836154559008 c =
     let s = c.args.s.now in
     let at = c.args.at in
-    let bs : Bytes s = λ i. (c.shared_slice_known-1.given i).fits in
+    let bs : Bytes s = λ i. (c.type_inv.s i).fits in
     let r = c.read_of_eight-w in
     let o = word_opens s at 8 bs (omega (arith, c.requires)) (omega arith) (text " jump=1 ") r.result 0x20313d706d756a20 r.ensures (whole_word s at bs (omega (arith, c.requires)) r.result r.ensures ∙ c.if-w-eq2319702836154559008.true) refl in
     let t = word_opens s (at + 8) 6 bs (omega (arith, c.requires)) (omega arith) (text "types=") c.read_of_eight.result 0x3d7365707974 c.read_of_eight.ensures c.if-read_of_eight-eq67565832403316.true refl in

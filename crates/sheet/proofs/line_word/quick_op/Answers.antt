@@ -18,7 +18,7 @@ unfolding text le_bytes
 returns-then-read_of_eight-eq67505836092960 c =
     let s = c.args.s.now in
     let at = c.args.at in
-    let bs : Bytes s = λ i. (c.shared_slice_known-1.given i).fits in
+    let bs : Bytes s = λ i. (c.type_inv.s i).fits in
     let n = c.in_ok-number in
     let k = literal_there (text "op=") s at (word_opens s at 3 bs (omega (arith, c.requires)) (omega arith) (text "op=") c.read_of_eight.result 0x3d706f c.read_of_eight.ensures c.if-read_of_eight-eq4026479.true refl) in
     let t = literal_there (text " name=") s n.number.next (word_opens s n.number.next 6 bs (omega (arith, c.requires, n.ensures.1)) (omega arith) (text " name=") c.read_of_eight-then-read_of_eight-eq4026479.result 0x3d656d616e20 c.read_of_eight-then-read_of_eight-eq4026479.ensures c.if-read_of_eight-eq67505836092960.true refl) in

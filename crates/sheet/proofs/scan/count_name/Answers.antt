@@ -24,7 +24,7 @@ returns-then-s-i-eq32 c =
     let a = c.args in
     let l = c.loop-w in
     let h = leb-true (c.loop-w.i + 8) (length c.args.s.now) (sym c.has_left.ensures ∙ c.loop-w-test.true) in
-    let bs : Bytes a.s.now = λ j. (c.shared_slice_known-1.given j).fits in
+    let bs : Bytes a.s.now = λ j. (c.type_inv.s j).fits in
     let k = c.letters_in_front-k in
     let e = letters_over a.s.now l.i k.result c.read_of_eight-w.result bs h c.read_of_eight-w.ensures k.ensures.0 k.ensures.1 in
     let g : l.i + k.result < length a.s.now = omega (arith, c.if-k-lt8.true, h) in
@@ -36,10 +36,10 @@ returns-then-k-lt8 c =
     let a = c.args in
     let l = c.loop-w in
     let h = leb-true (c.loop-w.i + 8) (length c.args.s.now) (sym c.has_left.ensures ∙ c.loop-w-test.true) in
-    let bs : Bytes a.s.now = λ j. (c.shared_slice_known-1.given j).fits in
+    let bs : Bytes a.s.now = λ j. (c.type_inv.s j).fits in
     let k = c.letters_in_front-k in
     let e = letters_over a.s.now l.i k.result c.read_of_eight-w.result bs h c.read_of_eight-w.ensures k.ensures.0 k.ensures.1 in
-    (omega (arith, e, l.invariant.2, c.count_word.ensures.0), omega (arith, h, l.invariant.0, l.invariant.1, k.ensures.0, c.count_word.ensures.1))
+    (omega (arith, e, l.invariant.2, c.name_bytes_at.ensures.0), omega (arith, h, l.invariant.0, l.invariant.1, k.ensures.0, c.name_bytes_at.ensures.1))
 
 pub loop-w-smaller : goal.loop-w-smaller
 loop-w-smaller c = omega (arith, c.if-k-lt8.false, leb-true (c.loop-w.i + 8) (length c.args.s.now) (sym c.has_left.ensures ∙ c.loop-w-test.true))
@@ -49,7 +49,7 @@ loop-w-preserved c =
     let a = c.args in
     let l = c.loop-w in
     let h = leb-true (c.loop-w.i + 8) (length c.args.s.now) (sym c.has_left.ensures ∙ c.loop-w-test.true) in
-    let bs : Bytes a.s.now = λ j. (c.shared_slice_known-1.given j).fits in
+    let bs : Bytes a.s.now = λ j. (c.type_inv.s j).fits in
     let k = c.letters_in_front-k in
     let e = letters_over a.s.now l.i k.result c.read_of_eight-w.result bs h c.read_of_eight-w.ensures k.ensures.0 k.ensures.1 in
     (omega (arith, l.invariant.0), omega (arith, h, l.invariant.0, l.invariant.1, k.ensures.0), l.invariant.2 ∙ e)

@@ -9,6 +9,6 @@ pub returns-then-byte_is : goal.returns-then-byte_is
 unfolding text
 returns-then-byte_is c = c.opens_at.ensures
 
-pub returns : goal.returns
+pub returns-else-byte_is : goal.returns-else-byte_is
 unfolding text
-returns c = let a = c.args in sym (opens_other 70 (text "unction") a.s.now a.at (eqb-false (get_or a.s.now a.at 0) 70 (sym c.byte_is.ensures ∙ c.if-byte_is.false)))
+returns-else-byte_is c = let a = c.args in c.if-byte_is.false ∙ sym (opens_other 70 (text "unction") a.s.now a.at (eqb-false (get_or a.s.now a.at 0) 70 (sym c.byte_is.ensures ∙ c.if-byte_is.false)))

@@ -1,7 +1,9 @@
 -- A table of ASCII whose ends are in order is sound. Assumes nothing.
 use mathlib.Core.Path.{◌≡◌, refl, ap, ◌∙◌}
-use mathlib.Core.Bool.{true}
-use lib.Dec.{ltb}
+use mathlib.Core.Bool.{Bool, true, ◌&&◌}
+use lib.Dec.{ltb, leb}
+use Rattle.lists.specs.Choice.{both}
+use Rattle.lists.proofs.Links.{both_and}
 use Rattle.std.specs.Char.{is_ascii}
 use Rattle.std.specs.List.{prefix_len}
 use mathlib.Core.List.{List, [], ◌∷◌}
@@ -9,14 +11,14 @@ use Prim.Native.Nat.{ℕ, zero, suc, ◌+◌, ◌-◌, ◌≤◌, ◌<◌}
 use native.Mathlib.Omega.{arith}
 use lib.ListN.{length, get_or, take, drop}
 use lib.Seq.{get_or-drop, drop-drop}
-use borrow.Author.Tests.{le-leb, ltb-true}
+use borrow.Author.Tests.{le-leb, ltb-true, leb-true}
 use Rattle.std.specs.Prelude.{None}
 use Rattle.std.specs.Str.{IsAscii}
 use Rattle.slices.specs.Answers.{found_of}
 use Rattle.lists.specs.Scan.{part}
 use Rattle.lists.specs.Found.Found.{missing}
 use Rattle.lists.proofs.Parts.{tail_part}
-use Rattle.lists.proofs.Tests.{by_leb, by_test}
+use Rattle.lists.proofs.Tests.{by_leb, by_test, both_left, both_right}
 use Rattle.spec_strings.specs.Utf8.{utf8_from, is_utf8}
 use Rattle.spec_strings.specs.Table.{well_formed, fault_from, fault}
 use Rattle.spec_strings.proofs.Utf8Laws.{step_ascii}
@@ -73,13 +75,17 @@ ordered bytes ends r l = record {
 pub none_ordered : (bytes ends : List ℕ) → length ends ≡ 0 → InOrder bytes ends
 none_ordered bytes ends e = record { rising = λ i h. absurd (omega (arith, e)); inside = λ i h. absurd (omega (arith, e)) }
 
--- one end more
-pub one_end : (ends : List ℕ) (i n m : ℕ) → (n ≡ 0 → (j : ℕ) → suc j < i → get_or ends j 0 ≤ get_or ends (suc j) 0) → 1 ≤ i → (m ≡ 0 → get_or ends (i - 1) 0 ≤ get_or ends i 0)
-    → n + m ≡ 0 → (j : ℕ) → suc j < i + 1 → get_or ends j 0 ≤ get_or ends (suc j) 0
-one_end ends i n m f l g e j h =
-    by_leb i (suc j)
-    (λ q. let z : i ≡ suc j = omega arith in let y : i - 1 ≡ j = omega arith in rw (y, z) at (g (omega arith)))
-    (λ q. f (omega arith) j q)
+-- one pair of ends more, the first of n that are left
+pub one_pair : (ends : List ℕ) (n n' : ℕ) (rising : Bool) (before end : ℕ) → (rising ≡ true → (j : ℕ) → j + n < length ends → get_or ends j 0 ≤ get_or ends (suc j) 0)
+    → n' + 1 ≡ n → n ≤ length ends → before ≡ get_or ends (length ends - n + 0) 0 → end ≡ get_or ends (length ends - n + 1) 0
+    → (rising && leb before end) ≡ true → (j : ℕ) → j + n' < length ends → get_or ends j 0 ≤ get_or ends (suc j) 0
+one_pair ends n n' rising before end f e l p q t j h =
+    let u : both rising (leb before end) ≡ true = both_and rising (leb before end) ∙ t in
+    by_leb (length ends) (j + n)
+    (λ o. let z : length ends - n + 0 ≡ j = omega arith in
+    let y : length ends - n + 1 ≡ suc j = omega arith in
+    omega (arith, rw z at p, rw y at q, leb-true before end (both_right rising (leb before end) u)))
+    (λ o. f (both_left rising (leb before end) u) j o)
 
 -- a byte of ASCII between characters is passed over
 past_one : (b : ℕ) (s : List ℕ) → b < 128 → utf8_from 0 (b ∷ s) ≡ utf8_from 0 s

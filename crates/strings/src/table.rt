@@ -22,28 +22,20 @@ pub struct Entry {
     pub end: usize,
 }
 
-// 1 for an end that lies before the one in front of it.
-fn falls(before: u32, end: u32) -> usize
-    ensures { (result ≤ 1) × (result ≡ 0 → before ≤ end) }
+// Whether no end falls. Nothing ends the loop early, so that it compiles to a few instructions for many ends.
+fn all_rise(ends: &[u32]) -> bool
+    ensures { result ≡ true → Rising ends.now }
 {
-    if end < before { 1 } else { 0 }
-}
-
-// How many ends fall. Nothing ends the loop early, so that it compiles to a few instructions for many ends.
-fn count_falls(ends: &[u32]) -> usize
-    ensures { result ≡ 0 → Rising ends.now }
-{
-    let mut n: usize = 0;
-    let mut i: usize = 1;
-    while i < ends.len() {
-        n += falls(ends[i - 1], ends[i]);
-        i += 1;
+    let mut rising = true;
+    for pair in ends.windows(2) {
+        rising &= pair[0] <= pair[1];
     }
-    n
+    rising
 }
 
 impl<'a> StringTable<'a> {
     // Refusal 18: more strings or bytes than a table may have.
+    #[tactic(auto, using(std::proofs::lemmas::Bool::Decides::nat_tests), unfolding(spec_strings::specs::Table::is_too_large))]
     pub fn too_large(self) -> bool
         ensures { result ≡ is_too_large self.entry.bytes.now self.entry.ends.now }
     {
@@ -61,16 +53,11 @@ impl<'a> StringTable<'a> {
     }
 
     // Whether an entry is in order: refusal 17.
+    #[tactic(auto, using(std::proofs::lemmas::Bool::Decides::nat_tests), unfolding(spec_strings::specs::Table::well_formed))]
     fn well_formed(self, start: usize, end: usize) -> bool
         ensures { result ≡ well_formed self.entry.bytes.now start end }
     {
-        if end < start {
-            return false;
-        }
-        if self.bytes.len() < end {
-            return false;
-        }
-        crate::utf8::is_utf8(&self.bytes[start..end])
+        start <= end && end <= self.bytes.len() && crate::utf8::is_utf8(&self.bytes[start..end])
     }
 
     // The first entry that is refused with 17, entry by entry.
@@ -92,14 +79,10 @@ impl<'a> StringTable<'a> {
     fn in_order(self) -> bool
         ensures { result ≡ true → InOrder self.entry.bytes.now self.entry.ends.now }
     {
-        let n = self.ends.len();
-        if n == 0 {
-            return true;
+        match self.ends.last() {
+            Some(&end) => wide(end) <= self.bytes.len() && all_rise(self.ends),
+            None => true,
         }
-        if self.bytes.len() < wide(self.ends[n - 1]) {
-            return false;
-        }
-        count_falls(self.ends) == 0
     }
 
     // The first entry that is refused with 17. Most tables are ASCII with their ends in order, and are found sound without a walk
@@ -115,6 +98,7 @@ impl<'a> StringTable<'a> {
     }
 
     // Where the text of an id starts and ends.
+    #[tactic(auto, using(std::proofs::lemmas::Bool::Decides::nat_tests), unfolding(crate::specs::Answers::entry_of))]
     pub fn string_at(self, id: usize) -> Option<Entry>
         ensures { result ≡ entry_of self.entry.ends.now id }
     {

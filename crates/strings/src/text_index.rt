@@ -1,12 +1,12 @@
-// The index is one lent slice: a head for each bucket, and behind them a next for each id. It answers what `lookup` of the table
-// answers.
-ghost use Rattle.std.specs.Prelude.{◌≡◌, ◌≤◌, length};
+// An index of a table's texts by their ids. It answers what `lookup` of the table answers.
+ghost use Rattle.std.specs.Prelude.{◌≡◌, ◌≤◌, Some, length};
 ghost use Rattle.limits.specs.Limits.{string_limit};
 ghost use Rattle.slices.specs.Answers.{found_of};
-ghost use Rattle.spec_strings.specs.Table.{lookup};
+ghost use Rattle.spec_strings.specs.Table.{text_of, lookup};
 ghost use Rattle.strings.specs.Keys.{text_buckets, text_space, TextsIndexed};
 
 use crate::table::StringTable;
+use hash_index::keys::{Keys, find_key, index_keys};
 
 const MOST_BUCKETS: usize = 16384;
 
@@ -42,18 +42,27 @@ fn buckets_of(n: usize) -> usize
     }
 }
 
-// Puts the texts of all ids into chains, from the last id down, so that the first of equal texts is found.
+impl Keys for StringTable<'_> {
+    ghost amount = { λ t. length t.ends.now };
+
+    ghost key_at = { λ t id. Some (text_of t.bytes.now t.ends.now id) };
+
+    fn count(&self) -> usize {
+        self.ends.len()
+    }
+
+    fn key(&self, i: usize) -> Option<&[u8]> {
+        Some(self.text_of(i))
+    }
+}
+
+// Indexes the texts of all ids.
 pub fn index_texts(strings: StringTable<'_>, index: &mut [u32])
     requires { (length strings.ends.now ≤ string_limit) × (text_space (length strings.ends.now) ≤ length index.old) }
     ensures { TextsIndexed strings.entry.bytes.now strings.entry.ends.now index.new }
 {
-    let n = strings.ends.len();
-    let m = buckets_of(n);
-    hash_index::chain::empty_heads(index, m, n);
-    for id in (0..n).rev() {
-        let h = hash_index::hash::bucket_of(strings.text_of(id), m);
-        hash_index::chain::put_in_front(index, m, h, id);
-    }
+    let m = buckets_of(strings.ends.len());
+    index_keys(&strings, m, index);
 }
 
 impl<'a> TextIndex<'a> {
@@ -61,17 +70,8 @@ impl<'a> TextIndex<'a> {
     pub fn find(self, text: &[u8]) -> Option<usize>
         ensures { result ≡ found_of (lookup text.now self.entry.strings.bytes.now self.entry.strings.ends.now) }
     {
-        let n = self.strings.ends.len();
-        let m = buckets_of(n);
-        let h = hash_index::hash::bucket_of(text, m);
-        let mut id = hash_index::chain::index_at(self.index, h);
-        while id < n {
-            if slices::compare::same_bytes(self.strings.text_of(id), text) {
-                return Some(id);
-            }
-            id = hash_index::chain::index_at(self.index, m + id);
-        }
-        None
+        let m = buckets_of(self.strings.ends.len());
+        find_key(&self.strings, m, self.index, text)
     }
 }
 

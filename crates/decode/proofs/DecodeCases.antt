@@ -15,8 +15,9 @@ use Rattle.answers.specs.Outcome.{Outcome}
 use Rattle.answers.specs.Outcome.Outcome.{refused_with}
 use Rattle.answers.specs.declared.refusal.Refusal.TheVariants.{TooLarge, NoFunction}
 use Rattle.operation.specs.Places.{located_of}
-use Rattle.operation.specs.declared.area.Located.{Located}
-use Rattle.operation.specs.declared.area.Located.TheVariants.{Inside, Refused}
+use Rattle.operation.specs.declared.area.Function.{Function}
+use Rattle.answers.specs.declared.refusal.Refusal.{Refusal}
+use Rattle.std.specs.Prelude.{Result, Ok, Err}
 use Rattle.operation.proofs.AreaLaws.{by_place}
 
 module _ (text body : List ℕ) where
@@ -29,11 +30,11 @@ module _ (text body : List ℕ) where
   decode_small h = rw (le-ltb 65536 (length body) h)
 
 -- a function's outcome, by where it lies
-unfoldable pub outcome_at : List (List ℕ) → ℕ → List ℕ → Located → Outcome
-outcome_at types last area (Inside f) = decode_outcome (decode_body types last (part area f.start f.size))
-outcome_at types last area (Refused x) = refused_with x
+unfoldable pub outcome_at : List (List ℕ) → ℕ → List ℕ → Result Function Refusal → Outcome
+outcome_at types last area (Ok f) = decode_outcome (decode_body types last (part area f.start f.size))
+outcome_at types last area (Err x) = refused_with x
 
-pub function_as : (types : List (List ℕ)) (last : ℕ) (functions area : List ℕ) (base id : ℕ) {place found : Located} → place ≡ located_of functions area base id → place ≡ found
+pub function_as : (types : List (List ℕ)) (last : ℕ) (functions area : List ℕ) (base id : ℕ) {place found : Result Function Refusal} → place ≡ located_of functions area base id → place ≡ found
     → function_outcome types last functions area base id ≡ outcome_at types last area found
 unfolding function_outcome outcome_at
 function_as types last functions area base id w e =

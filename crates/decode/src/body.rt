@@ -11,13 +11,6 @@ use crate::tables::{LENGTH, Plan};
 use answers::refusal::Refusal;
 use slices::widen::byte_index;
 
-// A body's records, counted, or 13 or 14 at an instruction.
-#[derive(Clone, Copy)]
-pub(crate) enum Body {
-    Records(usize),
-    Refused(Refusal),
-}
-
 // Writes the record of an instruction as the n-th, where there is room for it.
 fn store_record(out: &mut [u64], n: usize, row: [u8; 8], plan: &Plan, s: &[u8], at: usize)
     requires { PlanOf row plan.now × (at + length_of row ≤ length s.now) }
@@ -28,8 +21,13 @@ fn store_record(out: &mut [u64], n: usize, row: [u8; 8], plan: &Plan, s: &[u8], 
     }
 }
 
-// One pass over a body: every record is written where it fits, and all are counted.
-pub(crate) fn decode_body(types: &[[u8; 8]; 256], last: usize, s: &[u8], out: &mut [u64]) -> Body
+// One pass over a body: every record is written where it fits, and all are counted; or 13 or 14 at an instruction.
+pub(crate) fn decode_body(
+    types: &[[u8; 8]; 256],
+    last: usize,
+    s: &[u8],
+    out: &mut [u64],
+) -> Result<usize, Refusal>
     ensures value { result ≡ body_answer (decode_body types.now last s.now) }
     ensures by_index { (rs : List (List ℕ)) → decode_body types.now last s.now ≡ decoded rs → (length (join rs) ≡ 20 * length rs) × (20 * length rs ≤ length out.old → out.new ≡ join rs ++ drop (20 * length rs) out.old) }
 {
@@ -39,17 +37,17 @@ pub(crate) fn decode_body(types: &[[u8; 8]; 256], last: usize, s: &[u8], out: &m
     while at < s.len() {
         let op = s[at] as usize;
         if last < op {
-            return Body::Refused(Refusal::Beyond(at));
+            return Err(Refusal::Beyond(at));
         }
         let row = types[op];
         let plan = &plans[op];
         let size = byte_index(plan[LENGTH]);
         if s.len() - at < size {
-            return Body::Refused(Refusal::Cut(at));
+            return Err(Refusal::Cut(at));
         }
         store_record(out, n, row, plan, s, at);
         at += size;
         n += 1;
     }
-    Body::Records(n)
+    Ok(n)
 }

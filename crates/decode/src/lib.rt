@@ -1,7 +1,6 @@
 // Decoding: a body, or one function of an area, into records.
 #![tactic(auto)]
 
-pub mod answer; // what decoding answers, and its numbers
 pub mod body; // a body into records, in one pass
 pub mod instructions; // the operations (instructions.rs)
 pub mod record; // the 20 words of one instruction

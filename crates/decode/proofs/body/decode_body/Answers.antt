@@ -8,7 +8,7 @@ use Rattle.decode.specs.Bodies.{body_answer}
 use Rattle.decode.specs.Tables.{PlanOf}
 use Rattle.decode.proofs.PlanLaws.{plan_length}
 use Rattle.decode.proofs.BodyLoop.{start, ended, stopped, broken, turn, not_whole, all_written}
-use Rattle.decode.specs.declared.body.Body.TheVariants.{Records}
+use Rattle.std.specs.Prelude.{Ok}
 use Rattle.decode.proofs.body.decode_body.Goals as goal
 
 pub loop-at-init : goal.loop-at-init
@@ -70,4 +70,4 @@ unfolding body_answer
 returns c =
     let l = c.loop-at in
     let e = ended _ _ _ _ _ _ _ l.invariant c.loop-at-test.false in
-    record { value = ap Records (sym l.invariant.number) ∙ sym (ap body_answer e); by_index = (λ rs f. all_written _ _ _ _ _ _ _ l.invariant c.loop-at-test.false rs f) }
+    record { value = ap Ok (sym l.invariant.number) ∙ sym (ap body_answer e); by_index = (λ rs f. all_written _ _ _ _ _ _ _ l.invariant c.loop-at-test.false rs f) }

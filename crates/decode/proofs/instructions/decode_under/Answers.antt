@@ -1,23 +1,17 @@
+use mathlib.Core.Path.{sym}
+use native.Mathlib.Omega.{arith}
+use Rattle.sheet.proofs.AnswerLaws.{is_error}
 use Rattle.decode.proofs.BodyAnswers.{too_few, enough, refused, was_refused}
-use lib.ListN.{replicate}
-use Prim.Native.Nat.{ℕ}
-use mathlib.Core.Path.{sym, ◌∙◌, ap}
 use Rattle.decode.proofs.instructions.decode_under.Goals as goal
 
-pub returns-then-room-n : goal.returns-then-room-n
-returns-then-room-n c =
-    let a = c.args in
-    let b = c.decode_body-b in
-    let z = c.clear_words.ensures ∙ ap (λ (n : ℕ). replicate n 0) b.auto.out in
-    too_few _ _ a.out.now _ b.ensures.by_index (sym b.ensures.value ∙ c.in-Records.is) c.if-room-n.true _ z
+pub returns-in_err-n : goal.returns-in_err-n
+returns-in_err-n c =
+    rw (is_error _ c.from_residual.ensures.1) (refused _ (was_refused _ (sym c.in_err-n.ensures.value)) c.decode_body.auto.out)
 
-pub returns-else-room-n : goal.returns-else-room-n
-returns-else-room-n c =
-    let a = c.args in
-    let b = c.decode_body-b in
-    enough _ _ a.out.now _ b.ensures.by_index (sym b.ensures.value ∙ c.in-Records.is) c.if-room-n.false
+pub returns-then-out-n : goal.returns-then-out-n
+returns-then-out-n c =
+    too_few _ c.in_ok-n.n c.args.out.now _ c.in_ok-n.ensures.by_index (sym c.in_ok-n.ensures.value) (omega (arith, c.if-out-n.true, c.decode_body.auto.out)) c.decode_body.auto.out
 
-pub returns-in-Refused : goal.returns-in-Refused
-returns-in-Refused c =
-    let b = c.decode_body-b in
-    refused (was_refused _ (sym b.ensures.value ∙ c.in-Refused.is)) (c.clear_words-in-Refused.ensures ∙ ap (λ (n : ℕ). replicate n 0) b.auto.out)
+pub returns : goal.returns
+returns c =
+    enough _ c.in_ok-n.n c.args.out.now _ c.in_ok-n.ensures.by_index (sym c.in_ok-n.ensures.value) (omega (arith, c.if-out-n.false, c.decode_body.auto.out))

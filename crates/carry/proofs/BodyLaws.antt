@@ -14,8 +14,10 @@ use Rattle.answers.specs.Outcome.Outcome.{refused_with}
 use Rattle.answers.proofs.OutcomeLaws.{refused_end}
 use Rattle.answers.specs.declared.refusal.Refusal.{Refusal}
 use Rattle.answers.specs.declared.refusal.Refusal.TheVariants.{TooLarge}
-use Rattle.operation.specs.Ends.{measured_of, left_by, measured_report}
-use Rattle.operation.specs.declared.ending.Measured.{Measured}
+use Rattle.std.specs.Prelude.{Result}
+use Rattle.answers.specs.Answers.{answer_report}
+use Rattle.answers.specs.declared.failure.Failure.{Failure}
+use Rattle.operation.specs.Ends.{measured_of, left_by}
 use Rattle.operation.proofs.EndLaws.{measured_end}
 use Rattle.spec_inputs.specs.Context.{Context}
 use Rattle.spec_body.specs.Decode.{decode_body}
@@ -59,10 +61,10 @@ module _ (a b : Context) (last : ℕ) (s : List ℕ) where
       both_passed = is_decoded ∙ p tail result
 
       -- all was written and measured
-      pub written_end : {before now after : List ℕ} (k n room : ℕ) (m : Measured)
-          → Put before 0 bs now k → n ≡ length rs → m ≡ measured_of k 65536 n room (length now) → after ≡ left_by m now → Ended (carry_under a b last s) before (room ∷ []) after (measured_report k m)
-      written_end {before} {now} {after} k n room m put c e' z =
-          rw (both_passed, sym c) (measured_end 65536 (omega arith) bs before now k n room put m after e' z)
+      pub written_end : {before now after : List ℕ} (k n room : ℕ) (r : Result ℕ Failure)
+          → Put before 0 bs now k → n ≡ length rs → r ≡ measured_of k 65536 n room (length now) → after ≡ left_by r now → Ended (carry_under a b last s) before (room ∷ []) after (answer_report r)
+      written_end {before} {now} {after} k n room r put c e' z =
+          rw (both_passed, sym c) (measured_end 65536 (omega arith) bs before now k n room put r after e' z)
 
 -- a refusal ends it
 pub refused : {o : Outcome} {before room after : List ℕ} (x : Refusal) → o ≡ refused_with x → after ≡ zeros before → Ended o before room after (refusal_report x)

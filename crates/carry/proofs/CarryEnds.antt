@@ -3,7 +3,7 @@ use mathlib.Core.Path.{◌≡◌, refl, ap, sym, ◌∙◌}
 use mathlib.Core.Bool.{Bool, true, false}
 use mathlib.Core.List.{List, []}
 use Prim.Native.Nat.{ℕ, ◌≤◌}
-use native.Mathlib.Omega.{arith}
+use Rattle.std.specs.Prelude.{Result, Ok, Err}
 use lib.ListN.{length, get_or}
 use borrow.Author.Tests.{ltb-false}
 use Rattle.lists.specs.Choice.{either}
@@ -23,10 +23,6 @@ use Rattle.spec_carry.proofs.CaseLaws.{Passed, result_passed, passed_head, passe
 use Rattle.carry.specs.Inputs.{on_inputs, sheet_cases, SheetsRead}
 use Rattle.carry.specs.Inputs.SheetsRead.{both_read, one_refused}
 use Rattle.carry.specs.Ready.{ZerosBehind}
-use Rattle.carry.specs.declared.inputs.Inputs.{Inputs}
-use Rattle.carry.specs.declared.inputs.Inputs.TheVariants as table
-use Rattle.carry.specs.declared.inputs.Sheets.{Sheets}
-use Rattle.carry.specs.declared.inputs.Sheets.TheVariants as sheets
 use Rattle.carry.proofs.RowLaws.{unless_then}
 use Rattle.carry.proofs.TableLaws.{sheet_zeros, context_is}
 use Rattle.carry.proofs.BodyLaws.{refused}
@@ -49,15 +45,15 @@ module _ (g : Given) where
   carry_is = unless_then (input_cases g) (carry_cases g) _ ∙ unless_then tables (sheet_cases g.sheet₁ g.sheet₂) _
 
   -- a table is refused
-  pub tables_refused : {r : Inputs} {before room after : List ℕ} (x : Refusal) → ((rest : Outcome) → unless_case tables rest ≡ on_inputs r rest) → r ≡ table.Refused x → after ≡ zeros before
+  pub tables_refused : {r : Result (Unit {0}) Refusal} {before room after : List ℕ} (x : Refusal) → ((rest : Outcome) → unless_case tables rest ≡ on_inputs r rest) → r ≡ Err x → after ≡ zeros before
       → Ended (carry g) before room after (refusal_report x)
   unfolding on_inputs
-  tables_refused x h e z = refused x (carry_is ∙ (h _ ∙ ap (λ (q : Inputs). on_inputs q (unless_case (sheet_cases g.sheet₁ g.sheet₂) under)) e)) z
+  tables_refused x h e z = refused x (carry_is ∙ (h _ ∙ ap (λ (q : Result (Unit {0}) Refusal). on_inputs q (unless_case (sheet_cases g.sheet₁ g.sheet₂) under)) e)) z
 
-  module _ {r : Inputs} (h : (rest : Outcome) → unless_case tables rest ≡ on_inputs r rest) (e : r ≡ table.Good) where
+  module _ {r : Result (Unit {0}) Refusal} (h : (rest : Outcome) → unless_case tables rest ≡ on_inputs r rest) {u : Unit {0}} (e : r ≡ Ok u) where
     goes_on : (rest : Outcome) → unless_case tables rest ≡ rest
     unfolding on_inputs
-    goes_on rest = h rest ∙ ap (λ (q : Inputs). on_inputs q rest) e
+    goes_on rest = h rest ∙ ap (λ (q : Result (Unit {0}) Refusal). on_inputs q rest) e
 
     -- the sizes are within their limits
     passed : Passed tables
@@ -74,25 +70,25 @@ module _ (g : Given) where
     unfolding is_too_large
     ends₂_few = ltb-false string_limit (length g.ends₂) (either_left _ _ (passed_head (passed_tail (passed_tail passed))))
 
-    module _ {types ops types₂ ops₂ : List (List ℕ)} {q : Sheets} where
+    module _ {types ops types₂ ops₂ : List (List ℕ)} {q : Result ℕ Refusal} where
       -- a sheet is refused
-      pub sheets_refused : {before room after : List ℕ} (x : Refusal) → SheetsRead g.sheet₁ g.sheet₂ types ops types₂ ops₂ q → q ≡ sheets.Refused x → after ≡ zeros before
+      pub sheets_refused : {before room after : List ℕ} (x : Refusal) → SheetsRead g.sheet₁ g.sheet₂ types ops types₂ ops₂ q → q ≡ Err x → after ≡ zeros before
           → Ended (carry g) before room after (refusal_report x)
-      sheets_refused x (both_read a b c d l m y) w z = absurd (let k : ◌≡◌ {A = ℕ} 0 1 = cc (sym y ∙ w) in omega arith)
+      sheets_refused x (both_read a b c d l m y) w z = absurd (cc (sym y ∙ w))
       sheets_refused x (one_refused f m y) w z =
           let k : f ≡ x = cc (sym y ∙ w) in
           refused x (carry_is ∙ (goes_on _ ∙ (m under ∙ ap refused_with k))) z
 
       -- both were read
-      pub read_zeros : (last : ℕ) → SheetsRead g.sheet₁ g.sheet₂ types ops types₂ ops₂ q → q ≡ sheets.Ready last → ((op : ℕ) → ZerosBehind (get_or types op [])) × ((op : ℕ) → ZerosBehind (get_or types₂ op []))
+      pub read_zeros : (last : ℕ) → SheetsRead g.sheet₁ g.sheet₂ types ops types₂ ops₂ q → q ≡ Ok last → ((op : ℕ) → ZerosBehind (get_or types op [])) × ((op : ℕ) → ZerosBehind (get_or types₂ op []))
       read_zeros last (both_read a b c d l m y) w = ((λ op. rw a (sheet_zeros g.sheet₁ op)), (λ op. rw c (sheet_zeros g.sheet₂ op)))
-      read_zeros last (one_refused f m y) w = absurd (let k : ◌≡◌ {A = ℕ} 0 1 = cc (sym y ∙ w) in omega arith)
+      read_zeros last (one_refused f m y) w = absurd (cc (sym y ∙ w))
 
-      pub read_ends : {before room after : List ℕ} {answer : Report} (last : ℕ) → SheetsRead g.sheet₁ g.sheet₂ types ops types₂ ops₂ q → q ≡ sheets.Ready last
+      pub read_ends : {before room after : List ℕ} {answer : Report} (last : ℕ) → SheetsRead g.sheet₁ g.sheet₂ types ops types₂ ops₂ q → q ≡ Ok last
           → Ended (carry_under (context_from g.sheet₁ types ops g.bytes₁ g.ends₁) (context_from g.sheet₂ types₂ ops₂ g.bytes₂ g.ends₂) last g.body) before room after answer
           → Ended (carry g) before room after answer
       read_ends last (both_read a b c d l m y) w f =
           let k : largest_in (sheet_of g.sheet₁) ≡ last = cc (sym y ∙ w) in
           rw (carry_is ∙ (goes_on _ ∙ m under), k, ← context_is (sheet_of g.sheet₁) g.sheet₁ g.bytes₁ g.ends₁, ← context_is (sheet_of g.sheet₂) g.sheet₂ g.bytes₂ g.ends₂)
           (rw (a, b, c, d) at f)
-      read_ends last (one_refused x m y) w f = absurd (let k : ◌≡◌ {A = ℕ} 0 1 = cc (sym y ∙ w) in omega arith)
+      read_ends last (one_refused x m y) w f = absurd (cc (sym y ∙ w))

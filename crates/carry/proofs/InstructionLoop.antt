@@ -1,6 +1,9 @@
 -- The loop over the instructions of a body, in both passes. Assumes nothing.
 use mathlib.Core.Path.{◌≡◌, refl, ap, sym, ◌∙◌}
 use mathlib.Core.Bool.{true, false}
+use mathlib.Core.Logic.{◌⊎◌}
+use mathlib.Core.Logic.◌⊎◌.{inl, inr}
+use Rattle.std.specs.Prelude.{Option, None, Some, Result, Ok, Err}
 use mathlib.Core.List.{List, [], ◌∷◌, ◌++◌, append_assoc}
 use Prim.Native.Nat.{ℕ, suc, ◌+◌, ◌*◌, ◌%◌, ◌≤◌, ◌<◌}
 use native.Mathlib.Numerals.{add-one}
@@ -34,18 +37,20 @@ use Rattle.spec_body.proofs.DecodeLaws.Decoding.{ended, more}
 use Rattle.spec_carry.specs.Cases.{Case, unless_case}
 use Rattle.spec_carry.specs.Passes.{Carrying, opcode_into, new_opcode, old_row, new_row, moved_from, operands_cases, far_cases, new_operands, first_pass, second_pass, new_bytes}
 use Rattle.spec_carry.proofs.ResultLaws.{operands_length}
-use Rattle.carry.specs.Opcodes.{state_of}
+use Rattle.carry.specs.EmptyRow.{empty}
+use Rattle.carry.specs.Opcodes.{known_state, state_of}
 use Rattle.carry.specs.Plans.{copied, Instruction, Plans}
-use Rattle.carry.specs.Ids.{Translated}
-use Rattle.carry.specs.Places.{Mapped}
+use Rattle.carry.specs.Marks.{Marked}
 use Rattle.carry.specs.Ready.{ZerosBehind, Ready, carrying_in}
 use Rattle.carry.specs.Carried.{OperandsCarried, InstructionCarried, keep_first, ended_with, BytesCarried, block_size, instruction_start}
 use Rattle.carry.specs.Carried.OperandsCarried.{all_near, some_far, some_refused}
 use Rattle.carry.specs.Carried.BytesCarried.{whole, refuses}
+use Rattle.carry.specs.declared.plans.Plan.{Plan}
+use Rattle.carry.specs.declared.opcodes.OpcodeRow.{OpcodeRow}
+use Rattle.carry.specs.declared.opcodes.State.{State}
+use Rattle.carry.specs.declared.opcodes.State.TheVariants.{Missing, OtherCount, Known, Copied}
 use Rattle.carry.specs.declared.instructions.Operands.{Operands}
-use Rattle.carry.specs.declared.instructions.Operands.TheVariants.{Done, Refused}
-use Rattle.carry.specs.declared.instructions.Bytes.{Bytes}
-use Rattle.carry.specs.declared.instructions.Bytes.TheVariants as bytes
+use Rattle.carry.specs.declared.instructions.OperandRefusal.{OperandRefusal}
 use Rattle.carry.specs.declared.instructions.Far.{Far}
 use Rattle.carry.proofs.PlaceLoop.{length_is, new_length_is}
 
@@ -54,42 +59,73 @@ pub one_byte : (b : ℕ) → b < 256 → le_bytes 1 b ≡ b ∷ []
 unfolding le_bytes
 one_byte b h = let e : b % 256 ≡ b = omega arith in rw e
 
--- what an opcode's state says
+-- a name that is known is not missing, and counts as many operands
+pub is_known : (t : State) → (t ≡ Known) ⊎ (t ≡ Copied) → (t ≡ Missing → ⊥) × (t ≡ OtherCount → ⊥)
+is_known t (inl e) = ((λ z. let y : Known ≡ Missing = sym e ∙ z in cc y), (λ z. let y : Known ≡ OtherCount = sym e ∙ z in cc y))
+is_known t (inr e) = ((λ z. let y : Copied ≡ Missing = sym e ∙ z in cc y), (λ z. let y : Copied ≡ OtherCount = sym e ∙ z in cc y))
+
+-- what the state of a known name says
 module _ (row new : List ℕ) where
-  state_missing : (f : Found) → state_of f row new ≡ 0 → is_missing f ≡ true
+  data Says : State → Type 0 where
+    other : eqb (count_of row) (count_of new) ≡ false → Says OtherCount
+    copies : count_of row ≡ count_of new → copied row new ≡ true → Says Copied
+    known : count_of row ≡ count_of new → Says Known
+
+  said : Says (known_state row new)
+  said =
+      by_eqb (count_of row) (count_of new)
+      (λ q. rw (eq-eqb (count_of row) (count_of new) q) (by_test (copied row new) (λ t. rw t (copies q t)) (λ t. rw t (known q))))
+      (λ q. rw (ne_eqb (count_of row) (count_of new) q) (other (ne_eqb (count_of row) (count_of new) q)))
+
+  -- what an opcode's state says
+  state_missing : (f : Found) → state_of f row new ≡ Missing → is_missing f ≡ true
   unfolding state_of is_missing
-  state_missing (found k) e =
-      absurd
-      (by_eqb (count_of row) (count_of new)
-      (λ q. by_test (copied row new) (λ t. omega (arith, rw (eq-eqb (count_of row) (count_of new) q, t) at e)) (λ t. omega (arith, rw (eq-eqb (count_of row) (count_of new) q, t) at e)))
-      (λ q. omega (arith, rw (ne_eqb (count_of row) (count_of new) q) at e)))
+  state_missing (found k) e = absurd (go (known_state row new) said e)
+    where
+      go : (t : State) → Says t → t ≡ Missing → ⊥
+      go Missing h e = elim h [ ]
+      go OtherCount (other q) e = cc e
+      go Copied (copies q t) e = cc e
+      go Known (known q) e = cc e
   state_missing missing e = refl
 
-  state_found : (f : Found) → (state_of f row new ≡ 0 → ⊥) → is_missing f ≡ false
+  state_found : (f : Found) → (state_of f row new ≡ Missing → ⊥) → is_missing f ≡ false
   unfolding state_of is_missing
   state_found (found k) e = refl
   state_found missing e = absurd (e refl)
 
-  state_other : (f : Found) → state_of f row new ≡ 1 → eqb (count_of row) (count_of new) ≡ false
+  state_other : (f : Found) → state_of f row new ≡ OtherCount → eqb (count_of row) (count_of new) ≡ false
   unfolding state_of
-  state_other (found k) e =
-      by_eqb (count_of row) (count_of new)
-      (λ q. absurd (by_test (copied row new) (λ t. omega (arith, rw (eq-eqb (count_of row) (count_of new) q, t) at e)) (λ t. omega (arith, rw (eq-eqb (count_of row) (count_of new) q, t) at e))))
-      (λ q. ne_eqb (count_of row) (count_of new) q)
-  state_other missing e = absurd (omega (arith, e))
+  state_other (found k) e = go (known_state row new) said e
+    where
+      go : (t : State) → Says t → t ≡ OtherCount → eqb (count_of row) (count_of new) ≡ false
+      go Missing h e = elim h [ ]
+      go OtherCount (other q) e = q
+      go Copied (copies q t) e = absurd (cc e)
+      go Known (known q) e = absurd (cc e)
+  state_other missing e = absurd (cc e)
 
-  state_known : (f : Found) → (state_of f row new ≡ 0 → ⊥) → (state_of f row new ≡ 1 → ⊥) → count_of row ≡ count_of new
+  state_known : (f : Found) → (state_of f row new ≡ Missing → ⊥) → (state_of f row new ≡ OtherCount → ⊥) → count_of row ≡ count_of new
   unfolding state_of
-  state_known (found k) z o = by_eqb (count_of row) (count_of new) (λ q. q) (λ q. absurd (o (rw (ne_eqb (count_of row) (count_of new) q))))
+  state_known (found k) z o = go (known_state row new) said o
+    where
+      go : (t : State) → Says t → (t ≡ OtherCount → ⊥) → count_of row ≡ count_of new
+      go Missing h n = elim h [ ]
+      go OtherCount (other q) n = absurd (n refl)
+      go Copied (copies q t) n = q
+      go Known (known q) n = q
   state_known missing z o = absurd (z refl)
 
-  pub state_copied : (f : Found) → state_of f row new ≡ 3 → copied row new ≡ true
+  pub state_copied : (f : Found) → state_of f row new ≡ Copied → copied row new ≡ true
   unfolding state_of
-  state_copied (found k) e =
-      by_test (copied row new)
-      (λ t. t)
-      (λ t. absurd (by_eqb (count_of row) (count_of new) (λ q. omega (arith, rw (eq-eqb (count_of row) (count_of new) q, t) at e)) (λ q. omega (arith, rw (ne_eqb (count_of row) (count_of new) q) at e))))
-  state_copied missing e = absurd (omega (arith, e))
+  state_copied (found k) e = go (known_state row new) said e
+    where
+      go : (t : State) → Says t → t ≡ Copied → copied row new ≡ true
+      go Missing h e = elim h [ ]
+      go OtherCount (other q) e = absurd (cc e)
+      go Copied (copies q t) e = t
+      go Known (known q) e = absurd (cc e)
+  state_copied missing e = absurd (cc e)
 
 -- one instruction first in the first pass: its name, its operand count, then its operands
 module _ (x : Carrying) (i : ℕ) (r : List ℕ) (rs : List (List ℕ)) (cs : List Case) (rest : Outcome) where
@@ -149,57 +185,69 @@ moved_next : (x : Carrying) (i new : ℕ) (r : List ℕ) (rs : List (List ℕ)) 
 unfolding moved_from
 moved_next x i new r rs e = sym (drop-drop 1 i x.moved) ∙ ap (drop 1) e
 
--- what an answer says of an instruction, of any carrying that has this map and these ids
-abbrev pub Promised : ℕ → List ℕ → List ℕ → List ℕ → ℕ → ℕ → List ℕ → List ℕ → List ℕ → ℕ → List ℕ → Operands → Type 0
-Promised op row row' s at new map ids block n block' r =
-    (x : Carrying) (i : ℕ)
-    → Mapped x map → Translated x.«from».bytes x.«from».ends x.into.bytes x.into.ends ids → ZerosBehind row → ZerosBehind row' → count_of row ≡ count_of row' → new ≡ get_or x.moved i 0
-    → InstructionCarried x i at new op row row' (pairs row s (at + 1)) block n block' r
+-- the parts of an answer about operands
+ok_parts : {n n' : ℕ} {q q' : Option ℕ} → ◌≡◌ {A = Result Operands OperandRefusal} (Ok (record { next = n; far = q })) (Ok (record { next = n'; far = q' })) → (n' ≡ n) × (q ≡ q')
+ok_parts {n} {n'} {q} {q'} e =
+    let h : ◌≡◌ {A = Operands} (record { next = n; far = q }) (record { next = n'; far = q' }) = cc e in
+    (sym (ap (λ (o : Operands). o.next) h), ap (λ (o : Operands). o.far) h)
+
+err_parts : {f f' : OperandFault} {q q' : ℕ} → ◌≡◌ {A = Result Operands OperandRefusal} (Err (record { fault = f; operand = q })) (Err (record { fault = f'; operand = q' })) → (f' ≡ f) × (q' ≡ q)
+err_parts {f} {f'} {q} {q'} e =
+    let h : ◌≡◌ {A = OperandRefusal} (record { fault = f'; operand = q' }) (record { fault = f; operand = q }) = cc e in
+    (ap (λ (o : OperandRefusal). o.fault) h, ap (λ (o : OperandRefusal). o.operand) h)
 
 -- the first 8
-module _ (far : Far) (i q : ℕ) where
-  keep_new : far.operand ≡ 0 → keep_first far i q ≡ record { instruction = i; operand = q }
-  unfolding keep_first
-  keep_new e = rw e
+module _ (first : Option Far) (i : ℕ) (q : Option ℕ) where
+  keep_old : (far : Far) → first ≡ Some far → keep_first first i q ≡ Some far
+  keep_old far e = rw e
 
-  keep_old : (far.operand ≡ 0 → ⊥) → keep_first far i q ≡ far
-  unfolding keep_first
-  keep_old n = rw (ne_eqb far.operand 0 n)
+  keep_none : first ≡ None → q ≡ None → keep_first first i q ≡ None
+  keep_none e v = rw (e, v)
 
-module _ (types types₂ rows : List (List ℕ)) (last : ℕ) (s map ids out₀ : List ℕ) where
+  keep_some : (v : ℕ) → first ≡ None → q ≡ Some v → keep_first first i q ≡ Some (record { instruction = i; operand = v })
+  keep_some v e w = rw (e, w)
+
+-- what an answer says of an instruction, of any carrying that has this map and these ids
+abbrev pub Promised : ℕ → List ℕ → List ℕ → List ℕ → ℕ → ℕ → List ℕ → List ℕ → List ℕ → ℕ → List ℕ → Result Operands OperandRefusal → Type 0
+Promised op row row' s at new map ids block n block' r =
+    (x : Carrying) (i : ℕ)
+    → Marked x map ids → ZerosBehind row → ZerosBehind row' → count_of row ≡ count_of row' → new ≡ get_or x.moved i 0
+    → InstructionCarried x i at new op row row' (pairs row s (at + 1)) block n block' r
+
+module _ (types types₂ : List (List ℕ)) (rows : List OpcodeRow) (last : ℕ) (s map ids out₀ : List ℕ) where
   -- what an answer says of all instructions
-  abbrev AllPromised : List ℕ → Bytes → Type 0
+  abbrev AllPromised : List ℕ → Result ℕ Refusal → Type 0
   AllPromised out r = (g : Ready types types₂ rows last s map ids) → BytesCarried (carrying_in g) g.records out₀ out r
 
-  -- what the second pass has done: it wrote all instructions before the i-th, the last of them into the block, or `far` is the
-  -- first 8 among them; those left have the records rs
-  data Written (g : Ready types types₂ rows last s map ids) (rs : List (List ℕ)) (out block : List ℕ) (k n i : ℕ) (far : Far) : Type 0 where
-    wrote_all : far.operand ≡ 0 → Left (new_bytes (carrying_in g) 0 g.records) out₀ 0 (take n block ++ new_bytes (carrying_in g) i rs) out k
+  -- what the second pass has done: it wrote all instructions before the i-th, the last of them into the block, or there is a first 8
+  -- among them; those left have the records rs
+  data Written (g : Ready types types₂ rows last s map ids) (rs : List (List ℕ)) (out block : List ℕ) (k n i : ℕ) (first : Option Far) : Type 0 where
+    wrote_all : first ≡ None → Left (new_bytes (carrying_in g) 0 g.records) out₀ 0 (take n block ++ new_bytes (carrying_in g) i rs) out k
         → ((cs : List Case) (rest : Outcome) → unless_case (second_pass (carrying_in g) 0 g.records ++ cs) rest ≡ unless_case (second_pass (carrying_in g) i rs ++ cs) rest)
-        → Written g rs out block k n i far
-    met_far : (far.operand ≡ 0 → ⊥)
+        → Written g rs out block k n i first
+    met_far : (far : Far) → first ≡ Some far
         → ((cs : List Case) (rest : Outcome) → unless_case (second_pass (carrying_in g) 0 g.records ++ cs) rest ≡ refused_with (BadOperand Distance far.instruction far.operand))
-        → Written g rs out block k n i far
+        → Written g rs out block k n i first
 
   -- and the first pass: the instructions before the i-th pass; the i-th goes to `new`
-  record Midway (g : Ready types types₂ rows last s map ids) (out block : List ℕ) (k n new i : ℕ) (far : Far) (at : ℕ) : Type 0 where
+  record Midway (g : Ready types types₂ rows last s map ids) (out block : List ℕ) (k n new i : ℕ) (first : Option Far) (at : ℕ) : Type 0 where
     rs : List (List ℕ)
     stands : Decoding types last s at rs
     checked : (cs : List Case) (rest : Outcome) → unless_case (first_pass (carrying_in g) 0 g.records ++ cs) rest ≡ unless_case (first_pass (carrying_in g) i rs ++ cs) rest
-    written : Written g rs out block k n i far
+    written : Written g rs out block k n i first
     moved : drop i (carrying_in g).moved ≡ moved_from g.from g.into new rs
 
-  pub record Going (out block : List ℕ) (k n new i : ℕ) (far : Far) (at : ℕ) : Type 0 where
+  pub record Going (out block : List ℕ) (k n new i : ℕ) (first : Option Far) (at : ℕ) : Type 0 where
     pub below : i ≤ at
     pub inside : at ≤ length s
     pub small : new ≤ 65 * at
     pub same : length out ≡ length out₀
     pub size : length block ≡ block_size
     pub held : n ≤ block_size
-    midway : (g : Ready types types₂ rows last s map ids) → Midway g out block k n new i far at
+    midway : (g : Ready types types₂ rows last s map ids) → Midway g out block k n new i first at
 
-  pub start : (block : List ℕ) (far : Far) → length block ≡ block_size → far.operand ≡ 0 → length out₀ ≤ top → Going out₀ block 0 0 0 0 far 0
-  start block far l e h = record {
+  pub start : (block : List ℕ) → length block ≡ block_size → length out₀ ≤ top → Going out₀ block 0 0 0 0 None 0
+  start block l h = record {
     below = omega arith;
     inside = omega arith;
     small = omega arith;
@@ -210,14 +258,14 @@ module _ (types types₂ rows : List (List ℕ)) (last : ℕ) (s map ids out₀ 
       rs = g.records;
       stands = body_stands types last s g.records g.decodes;
       checked = λ cs rest. refl;
-      written = wrote_all e (left_all h (omega arith)) (λ cs rest. refl);
+      written = wrote_all refl (left_all h (omega arith)) (λ cs rest. refl);
       moved = refl;
     };
   }
 
-  module _ (out block : List ℕ) (k n new i : ℕ) (far : Far) (at : ℕ) (going : Going out block k n new i far at) where
+  module _ (out block : List ℕ) (k n new i : ℕ) (first : Option Far) (at : ℕ) (going : Going out block k n new i first at) where
     -- room for an instruction was made
-    pub roomy : {out' : List ℕ} {r : Gathered} → RoomMade instruction_start block n out k out' r → (r.kept ≤ instruction_start) × Going out' block r.next r.kept new i far at
+    pub roomy : {out' : List ℕ} {r : Gathered} → RoomMade instruction_start block n out k out' r → (r.kept ≤ instruction_start) × Going out' block r.next r.kept new i first at
     roomy {out'} {r} w = (
       room_kept w,
       record {
@@ -233,16 +281,16 @@ module _ (types types₂ rows : List (List ℕ)) (last : ℕ) (s map ids out₀ 
       },
     )
       where
-        go : (g : Ready types types₂ rows last s map ids) (rs : List (List ℕ)) → Written g rs out block k n i far → Written g rs out' block r.next r.kept i far
+        go : (g : Ready types types₂ rows last s map ids) (rs : List (List ℕ)) → Written g rs out block k n i first → Written g rs out' block r.next r.kept i first
         go g rs (wrote_all z left near) = wrote_all z (room_left (new_bytes (carrying_in g) i rs) w left) near
-        go g rs (met_far z f) = met_far z f
+        go g rs (met_far far z f) = met_far far z f
 
     -- at the end, where what the block holds goes to the output
-    pub all_done : {out' : List ℕ} {r : ℕ} → length s ≤ at → Put out k (take n block) out' r → AllPromised out' (ended_with r far)
+    pub all_done : {out' : List ℕ} {r : ℕ} → length s ≤ at → Put out k (take n block) out' r → AllPromised out' (ended_with r first)
     unfolding first_pass second_pass new_bytes ended_with
     all_done {out'} {r} h put g = go m.written
       where
-        m : Midway g out block k n new i far at
+        m : Midway g out block k n new i first at
         m = going.midway g
 
         e : m.rs ≡ []
@@ -251,37 +299,37 @@ module _ (types types₂ rows : List (List ℕ)) (last : ℕ) (s map ids out₀ 
         passes : (cs : List Case) (rest : Outcome) → unless_case (first_pass (carrying_in g) 0 g.records ++ cs) rest ≡ unless_case cs rest
         passes cs rest = m.checked cs rest ∙ ap (λ (l : List (List ℕ)). unless_case (first_pass (carrying_in g) i l ++ cs) rest) e
 
-        go : Written g m.rs out block k n i far → BytesCarried (carrying_in g) g.records out₀ out' (ended_with r far)
+        go : Written g m.rs out block k n i first → BytesCarried (carrying_in g) g.records out₀ out' (ended_with r first)
         go (wrote_all z left near) =
             whole r (rw z)
             (λ cs rest. passes _ rest ∙ (near cs rest ∙ ap (λ (l : List (List ℕ)). unless_case (second_pass (carrying_in g) i l ++ cs) rest) e))
             (left_none (left_turn left refl put) (ap (new_bytes (carrying_in g) i) e))
-        go (met_far n f) = refuses (BadOperand Distance far.instruction far.operand) (rw (ne_eqb far.operand 0 n)) (λ cs rest. passes _ rest ∙ f cs rest)
+        go (met_far far z f) = refuses (BadOperand Distance far.instruction far.operand) (rw z) (λ cs rest. passes _ rest ∙ f cs rest)
 
     module _ (h : at < length s) (u : get_or s at 0 < 256) where
       -- its opcode, the row of that, and its types under both sheets
       abbrev op : ℕ
       op = get_or s at 0
 
-      abbrev row : List ℕ
-      row = get_or rows op []
+      abbrev row : OpcodeRow
+      row = get_or rows op empty
 
       abbrev old : List ℕ
       old = get_or types op []
 
       abbrev row' : List ℕ
-      row' = get_or types₂ (get_or row 1 0) []
+      row' = get_or types₂ row.opcode []
 
       -- its new opcode, and where it ends
       pub record Here : Type 0 where
-        pub known : get_or row 1 0 < 256
+        pub known : row.opcode < 256
         pub room : at + length_of old ≤ length s
-        pub some : 1 ≤ get_or row 2 0
-        pub next : at + get_or row 2 0 ≤ length s
-        pub most : get_or row 3 0 ≤ 65
+        pub some : 1 ≤ row.length
+        pub next : at + row.length ≤ length s
+        pub most : row.new_length ≤ 65
 
       module _ (g : Ready types types₂ rows last s map ids) where
-        abbrev m : Midway g out block k n new i far at
+        abbrev m : Midway g out block k n new i first at
         m = going.midway g
 
         abbrev instruction : Next types last s at m.rs
@@ -294,8 +342,8 @@ module _ (types types₂ rows : List (List ℕ)) (last : ℕ) (s map ids out₀ 
         abbrev name_found : Found
         name_found = opcode_into g.from g.into op
 
-        opcode_is : get_or row 1 0 ≡ new_opcode g.from g.into record_here
-        opcode_is = ap (λ (l : List ℕ). get_or l 1 0) (g.rows_are op u instruction.small)
+        opcode_is : row.opcode ≡ new_opcode g.from g.into record_here
+        opcode_is = ap (λ (l : OpcodeRow). l.opcode) (g.rows_are op u instruction.small)
 
         pub old_is : old_row g.from record_here ≡ old
         old_is = ap (λ (t : List (List ℕ)). get_or t op []) g.types_are
@@ -309,16 +357,16 @@ module _ (types types₂ rows : List (List ℕ)) (last : ℕ) (s map ids out₀ 
         abbrev counts' : ℕ
         counts' = count_of (new_row g.from g.into record_here)
 
-        pub state_is : get_or row 0 0 ≡ state_of name_found (old_row g.from record_here) (new_row g.from g.into record_here)
-        state_is = ap (λ (l : List ℕ). get_or l 0 0) (g.rows_are op u instruction.small)
+        pub state_is : row.state ≡ state_of name_found (old_row g.from record_here) (new_row g.from g.into record_here)
+        state_is = ap (λ (l : OpcodeRow). l.state) (g.rows_are op u instruction.small)
 
-        pub length_here : get_or row 2 0 ≡ length_of old
+        pub length_here : row.length ≡ length_of old
         length_here = length_is g.from g.into last rows g.rows_are op u instruction.small ∙ ap length_of old_is
 
-        new_length : get_or row 3 0 ≡ length_of (new_row g.from g.into record_here)
+        new_length : row.new_length ≡ length_of (new_row g.from g.into record_here)
         new_length = new_length_is g.from g.into last rows g.rows_are op u instruction.small
 
-        new_size : get_or row 3 0 ≡ 1 + total_width row'
+        new_size : row.new_length ≡ 1 + total_width row'
         new_size = new_length ∙ ap length_of new_is
 
         pub here : Here
@@ -331,7 +379,7 @@ module _ (types types₂ rows : List (List ℕ)) (last : ℕ) (s map ids out₀ 
         }
 
         -- its row, and the plans of its operands
-        abbrev pub planned_here : (plans : List (List ℕ)) → Plans types types₂ rows last plans → Instruction row (get_or plans op []) s at
+        abbrev pub planned_here : (plans : List (List (Option Plan))) → Plans types types₂ rows last plans → Instruction row (get_or plans op []) s at
         planned_here plans p = record {
           planning = record { row = old; row' = row'; planned = p op u instruction.small; room = instruction.room };
           state = λ z. rw (old_is, new_is) at (state_copied (old_row g.from record_here) (new_row g.from g.into record_here) name_found (sym state_is ∙ z));
@@ -345,11 +393,11 @@ module _ (types types₂ rows : List (List ℕ)) (last : ℕ) (s map ids out₀ 
         from_here cs rest = m.checked cs rest ∙ ap (λ (l : List (List ℕ)). unless_case (first_pass (carrying_in g) i l ++ cs) rest) instruction.are
 
         refused_here : (f : Refusal) → ((cs : List Case) (rest : Outcome) → unless_case (first_pass (carrying_in g) i (record_here ∷ instruction.others) ++ cs) rest ≡ refused_with f)
-            → (out' : List ℕ) → BytesCarried (carrying_in g) g.records out₀ out' (bytes.Refused f)
+            → (out' : List ℕ) → BytesCarried (carrying_in g) g.records out₀ out' (Err f)
         refused_here f e out' = refuses f refl (λ cs rest. from_here _ rest ∙ e _ rest)
 
         -- its name is known, with as many operands
-        module _ (e : (get_or row 0 0 ≡ 0 → ⊥) × (get_or row 0 0 ≡ 1 → ⊥)) where
+        module _ (e : (row.state ≡ Missing → ⊥) × (row.state ≡ OtherCount → ⊥)) where
           same_count : counts ≡ counts'
           same_count = state_known (old_row g.from record_here) (new_row g.from g.into record_here) name_found (λ z. e.0 (state_is ∙ z)) (λ z. e.1 (state_is ∙ z))
 
@@ -363,33 +411,33 @@ module _ (types types₂ rows : List (List ℕ)) (last : ℕ) (s map ids out₀ 
           new_is_here = moved_here (carrying_in g) i new m.rs m.moved
 
           -- what was said of it
-          instruction_said : (out' : List ℕ) (r : Operands) → Promised (get_or row 1 0) old row' s at new map ids block n out' r
-              → InstructionCarried (carrying_in g) i at new (get_or row 1 0) old row' (pairs_of record_here) block n out' r
+          instruction_said : (out' : List ℕ) (r : Result Operands OperandRefusal) → Promised (row.opcode) old row' s at new map ids block n out' r
+              → InstructionCarried (carrying_in g) i at new (row.opcode) old row' (pairs_of record_here) block n out' r
           instruction_said out' r said =
-              said (carrying_in g) i g.mapped g.translated (g.zeros op) (g.zeros₂ (get_or row 1 0)) (rw (old_is, new_is) at same_count) new_is_here
+              said (carrying_in g) i g.marked (g.zeros op) (g.zeros₂ (row.opcode)) (rw (old_is, new_is) at same_count) new_is_here
 
-          bad_here : (out₁ : List ℕ) (b : ℕ) (out' : List ℕ) (f : OperandFault) (q : ℕ) → OperandsCarried (carrying_in g) i at new old row' (pairs_of record_here) out₁ b out' (Refused f q)
-              → BytesCarried (carrying_in g) g.records out₀ out (bytes.Refused (BadOperand f i q))
-          bad_here out₁ b out' f q (all_near n z a c w) = absurd (let y : ◌≡◌ {A = ℕ} 0 1 = cc z in omega arith)
-          bad_here out₁ b out' f q (some_far n v z l a c) = absurd (let y : ◌≡◌ {A = ℕ} 0 1 = cc z in omega arith)
+          bad_here : (out₁ : List ℕ) (b : ℕ) (out' : List ℕ) (f : OperandFault) (q : ℕ) → OperandsCarried (carrying_in g) i at new old row' (pairs_of record_here) out₁ b out' (Err (record { fault = f; operand = q }))
+              → BytesCarried (carrying_in g) g.records out₀ out (Err (BadOperand f i q))
+          bad_here out₁ b out' f q (all_near n z a c w) = absurd (cc z)
+          bad_here out₁ b out' f q (some_far n v z l a c) = absurd (cc z)
           bad_here out₁ b out' f q (some_refused f' q' z a) =
-              let y : f' ≡ f = cc z in
-              let w : q' ≡ q = cc z in
+              let y = (err_parts z).0 in
+              let w = (err_parts z).1 in
               refused_here (BadOperand f i q) (λ cs rest. over_operands cs rest ∙ (a _ rest ∙ rw (y, w))) out
 
-          passes_here : (out₁ : List ℕ) (b : ℕ) (out' : List ℕ) (k' q : ℕ) → OperandsCarried (carrying_in g) i at new old row' (pairs_of record_here) out₁ b out' (Done k' q)
+          passes_here : (out₁ : List ℕ) (b : ℕ) (out' : List ℕ) (k' : ℕ) (q : Option ℕ) → OperandsCarried (carrying_in g) i at new old row' (pairs_of record_here) out₁ b out' (Ok (record { next = k'; far = q }))
               → (cs : List Case) (rest : Outcome) → unless_case (operands_cases (carrying_in g) i at 1 old row' (pairs_of record_here) ++ cs) rest ≡ unless_case cs rest
           passes_here out₁ b out' k' q (all_near n z a c w) = a
           passes_here out₁ b out' k' q (some_far n v z l a c) = a
-          passes_here out₁ b out' k' q (some_refused f q' z a) = absurd (let y : ◌≡◌ {A = ℕ} 0 1 = cc z in omega arith)
+          passes_here out₁ b out' k' q (some_refused f q' z a) = absurd (cc z)
 
           -- where they end
-          next_most : (out₁ : List ℕ) (b : ℕ) (out' : List ℕ) (k' q : ℕ) → OperandsCarried (carrying_in g) i at new old row' (pairs_of record_here) out₁ b out' (Done k' q) → k' ≤ b + 64
+          next_most : (out₁ : List ℕ) (b : ℕ) (out' : List ℕ) (k' : ℕ) (q : Option ℕ) → OperandsCarried (carrying_in g) i at new old row' (pairs_of record_here) out₁ b out' (Ok (record { next = k'; far = q })) → k' ≤ b + 64
           next_most out₁ b out' k' q (all_near n' z a c w) =
-              let y : n' ≡ k' = cc z in
+              let y = (ok_parts z).0 in
               omega (arith, y, w.next, operands_length (carrying_in g) at new old row' (pairs_of record_here), new_size, here.most)
-          next_most out₁ b out' k' q (some_far n' v z l a c) = let y : n' ≡ k' = cc z in omega arith
-          next_most out₁ b out' k' q (some_refused f q' z a) = absurd (let y : ◌≡◌ {A = ℕ} 0 1 = cc z in omega arith)
+          next_most out₁ b out' k' q (some_far n' v z l a c) = let y = (ok_parts z).0 in omega (arith, y)
+          next_most out₁ b out' k' q (some_refused f q' z a) = absurd (cc z)
 
           -- the second pass goes on from here
           far_first : (cs : List Case) (rest : Outcome) → unless_case (second_pass (carrying_in g) i m.rs ++ cs) rest
@@ -398,31 +446,28 @@ module _ (types types₂ rows : List (List ℕ)) (last : ℕ) (s map ids out₀ 
               ap (λ (l : List (List ℕ)). unless_case (second_pass (carrying_in g) i l ++ cs) rest) instruction.are
               ∙ first_far (carrying_in g) i record_here instruction.others old row' old_is new_is cs rest
 
-          written_next : (out₁ : List ℕ) (b : ℕ) (out' : List ℕ) (k' q : ℕ) → ByWords block n (get_or row 1 0 ∷ []) out₁ b → OperandsCarried (carrying_in g) i at new old row' (pairs_of record_here) out₁ b out' (Done k' q)
-              → n ≤ instruction_start → Written g m.rs out block k n i far → Written g instruction.others out out' k k' (suc i) (keep_first far i q)
-          written_next out₁ b out' k' q byte o few (met_far z f) = rw (keep_old far i q z) (met_far z f)
+          written_next : (out₁ : List ℕ) (b : ℕ) (out' : List ℕ) (k' : ℕ) (q : Option ℕ) → ByWords block n (row.opcode ∷ []) out₁ b → OperandsCarried (carrying_in g) i at new old row' (pairs_of record_here) out₁ b out' (Ok (record { next = k'; far = q }))
+              → n ≤ instruction_start → Written g m.rs out block k n i first → Written g instruction.others out out' k k' (suc i) (keep_first first i q)
+          written_next out₁ b out' k' q byte o few (met_far far z f) = met_far far (keep_old first i q far z) f
           written_next out₁ b out' k' q byte (all_near n' z a c w) few (wrote_all e' left near) =
-              let y : n' ≡ k' = cc z in
-              let v : q ≡ 0 = cc z in
-              let piece = get_or row 1 0 ∷ new_operands (carrying_in g) at new old row' (pairs_of record_here) in
+              let y = (ok_parts z).0 in
+              let v = (ok_parts z).1 in
+              let piece = row.opcode ∷ new_operands (carrying_in g) at new old row' (pairs_of record_here) in
               let put : ByWords block n piece out' k' = byte and_words (rw y at w) in
               let fits : n + length piece ≤ length block = omega (arith, few, going.size, operands_length (carrying_in g) at new old row' (pairs_of record_here), new_size, here.most) in
-              rw (keep_new far i q e')
-              (wrote_all v
+              wrote_all (keep_none first i q e' v)
               (left_same
               (ap (λ (l : List (List ℕ)). take n block ++ new_bytes (carrying_in g) i l) instruction.are
-              ∙ (ap (λ (l : List ℕ). take n block ++ l) (first_bytes (carrying_in g) i record_here instruction.others old row' old_is new_is new (get_or row 1 0) new_is_here opcode_is)
+              ∙ (ap (λ (l : List ℕ). take n block ++ l) (first_bytes (carrying_in g) i record_here instruction.others old row' old_is new_is new (row.opcode) new_is_here opcode_is)
               ∙ (sym (append_assoc (take n block) piece _) ∙ ap (λ (l : List ℕ). l ++ new_bytes (carrying_in g) (suc i) instruction.others) (sym (ahead_front put fits)))))
               left)
-              (λ cs rest. near cs rest ∙ (far_first cs rest ∙ c _ rest)))
+              (λ cs rest. near cs rest ∙ (far_first cs rest ∙ c _ rest))
           written_next out₁ b out' k' q byte (some_far n' v z l a c) few (wrote_all e' left near) =
-              let w : q ≡ suc v = cc z in
-              rw (keep_new far i q e')
-              (met_far (λ y. omega (arith, w, y)) (λ cs rest. near cs rest ∙ (far_first cs rest ∙ (c _ rest ∙ rw w))))
-          written_next out₁ b out' k' q byte (some_refused f q' z a) few (wrote_all e' left near) = absurd (let y : ◌≡◌ {A = ℕ} 0 1 = cc z in omega arith)
+              met_far (record { instruction = i; operand = v }) (keep_some first i q v e' (ok_parts z).1) (λ cs rest. near cs rest ∙ (far_first cs rest ∙ c _ rest))
+          written_next out₁ b out' k' q byte (some_refused f q' z a) few (wrote_all e' left near) = absurd (cc z)
 
-          midway_next : (out₁ : List ℕ) (b : ℕ) (out' : List ℕ) (k' q : ℕ) → ByWords block n (get_or row 1 0 ∷ []) out₁ b → OperandsCarried (carrying_in g) i at new old row' (pairs_of record_here) out₁ b out' (Done k' q)
-              → n ≤ instruction_start → Midway g out out' k k' (new + get_or row 3 0) (i + 1) (keep_first far i q) (at + get_or row 2 0)
+          midway_next : (out₁ : List ℕ) (b : ℕ) (out' : List ℕ) (k' : ℕ) (q : Option ℕ) → ByWords block n (row.opcode ∷ []) out₁ b → OperandsCarried (carrying_in g) i at new old row' (pairs_of record_here) out₁ b out' (Ok (record { next = k'; far = q }))
+              → n ≤ instruction_start → Midway g out out' k k' (new + row.new_length) (i + 1) (keep_first first i q) (at + row.length)
           midway_next out₁ b out' k' q byte o few =
               record {
                 rs = instruction.others;
@@ -433,33 +478,33 @@ module _ (types types₂ rows : List (List ℕ)) (last : ℕ) (s map ids out₀ 
               }
 
       -- 4: the second sheet lacks its name
-      pub unknown : get_or row 0 0 ≡ 0 → AllPromised out (bytes.Refused (UnknownName i))
+      pub unknown : row.state ≡ Missing → AllPromised out (Err (UnknownName i))
       unknown e g =
           refused_here g (UnknownName i)
           (λ cs rest. first_missing (carrying_in g) i _ _ cs rest (state_missing (old_row g.from (record_here g)) (new_row g.from g.into (record_here g)) (name_found g) (sym (state_is g) ∙ e))) out
 
       -- 5: it has the name with another number of operands
-      pub other_count : get_or row 0 0 ≡ 1 → AllPromised out (bytes.Refused (OperandCount i))
+      pub other_count : row.state ≡ OtherCount → AllPromised out (Err (OperandCount i))
       other_count e g =
           refused_here g (OperandCount i)
           (λ cs rest. first_other (carrying_in g) i _ _ cs rest
-          (state_found (old_row g.from (record_here g)) (new_row g.from g.into (record_here g)) (name_found g) (λ z. omega (arith, e, state_is g, z)))
+          (state_found (old_row g.from (record_here g)) (new_row g.from g.into (record_here g)) (name_found g) (λ z. let y : Missing ≡ OtherCount = sym z ∙ (sym (state_is g) ∙ e) in cc y))
           (state_other (old_row g.from (record_here g)) (new_row g.from g.into (record_here g)) (name_found g) (sym (state_is g) ∙ e))) out
 
       -- it was carried
-      module _ (e : (get_or row 0 0 ≡ 0 → ⊥) × (get_or row 0 0 ≡ 1 → ⊥)) (out' : List ℕ) (r : Operands) (said : Promised (get_or row 1 0) old row' s at new map ids block n out' r) where
+      module _ (e : (row.state ≡ Missing → ⊥) × (row.state ≡ OtherCount → ⊥)) (out' : List ℕ) (r : Result Operands OperandRefusal) (said : Promised (row.opcode) old row' s at new map ids block n out' r) where
         -- an operand that cannot be carried
-        pub bad : (f : OperandFault) (q : ℕ) → r ≡ Refused f q → AllPromised out (bytes.Refused (BadOperand f i q))
-        bad f q v g = let c = instruction_said g e out' (Refused f q) (rw v at said) in bad_here g e c.block₁ c.b out' f q c.operands
+        pub bad : (f : OperandFault) (q : ℕ) → r ≡ Err (record { fault = f; operand = q }) → AllPromised out (Err (BadOperand f i q))
+        bad f q v g = let c = instruction_said g e out' (Err (record { fault = f; operand = q })) (rw v at said) in bad_here g e c.block₁ c.b out' f q c.operands
 
-        pub turn : Ready types types₂ rows last s map ids → n ≤ instruction_start → length out' ≡ length block → (k' q : ℕ) → r ≡ Done k' q → (far' : Far) → far' ≡ keep_first far i q
-            → Going out out' k k' (new + get_or row 3 0) (i + 1) far' (at + get_or row 2 0)
-        turn g₀ few l k' q v far' w = record {
+        pub turn : Ready types types₂ rows last s map ids → n ≤ instruction_start → length out' ≡ length block → (k' : ℕ) (q : Option ℕ) → r ≡ Ok (record { next = k'; far = q }) → (first' : Option Far) → first' ≡ keep_first first i q
+            → Going out out' k k' (new + row.new_length) (i + 1) first' (at + row.length)
+        turn g₀ few l k' q v first' w = record {
           below = omega (arith, (here g₀).some, going.below);
           inside = (here g₀).next;
           small = omega (arith, (here g₀).some, (here g₀).most, going.small);
           same = going.same;
           size = l ∙ going.size;
-          held = let c = instruction_said g₀ e out' (Done k' q) (rw v at said) in omega (arith, few, c.opcode_put.next, next_most g₀ e c.block₁ c.b out' k' q c.operands);
-          midway = λ g. let c = instruction_said g e out' (Done k' q) (rw v at said) in rw w (midway_next g e c.block₁ c.b out' k' q c.opcode_put c.operands few);
+          held = let c = instruction_said g₀ e out' (Ok (record { next = k'; far = q })) (rw v at said) in omega (arith, few, c.opcode_put.next, next_most g₀ e c.block₁ c.b out' k' q c.operands);
+          midway = λ g. let c = instruction_said g e out' (Ok (record { next = k'; far = q })) (rw v at said) in rw w (midway_next g e c.block₁ c.b out' k' q c.opcode_put c.operands few);
         }

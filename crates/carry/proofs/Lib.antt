@@ -1,11 +1,14 @@
+pub mod AnswerLaws
 pub mod OpcodeLaws
 pub mod IdLaws
+pub mod MarkLaws
 pub mod PlaceLaws
 pub mod PlaceLoop
 pub mod TargetLaws
 pub mod CheckLaws
 pub mod RowLaws
 pub mod PlanLaws
+pub mod FamilyLaws
 pub mod WriteLaws
 pub mod CarriedLaws
 pub mod KeptLaws

@@ -4,6 +4,7 @@ use mathlib.Core.Bool.{true, false}
 use mathlib.Core.List.{List, []}
 use Prim.Native.Nat.{ℕ, ◌+◌, ◌-◌, ◌*◌, ◌^◌, ◌≤◌, ◌<◌}
 use native.Mathlib.Omega.{arith}
+use Rattle.std.specs.Prelude.{Option, None, Some}
 use lib.Dec.{eqb, leb}
 use lib.ListN.{length, get_or}
 use borrow.Author.Tests.{le-leb, lt-leb, ne_eqb, ltb-true}
@@ -18,11 +19,10 @@ use Rattle.spec_carry.specs.Cases.{Case, unless_case}
 use Rattle.spec_carry.specs.Passes.{Carrying, or_zero, near, new_id, new_place, old_target, operand_cases, distance_bits, new_bits}
 use Rattle.spec_carry.proofs.CaseLaws.{Passed, result_passed}
 use Rattle.spec_carry.proofs.ValueLaws.{Good, good_operand_lem, is_found}
-use Rattle.carry.specs.Ids.{id_mark, Translated}
-use Rattle.carry.specs.Places.{place_mark, Mapped}
+use Rattle.carry.specs.Ids.{id_mark}
+use Rattle.carry.specs.Marks.{Marked}
+use Rattle.carry.specs.Places.{place_mark}
 use Rattle.carry.specs.NewBits.{target_mark, distance_into, is_far}
-use Rattle.carry.specs.declared.new_bits.NewBits.{NewBits}
-use Rattle.carry.specs.declared.new_bits.NewBits.TheVariants as answer
 use Rattle.carry.proofs.TargetLaws.{target_mark_lem}
 
 -- cases that change no outcome: none holds
@@ -63,29 +63,29 @@ module _ (at place : ℕ) where
 
   -- in an Addr of four bytes, and of one
   module _ (w : ℕ) where
-    pub in_four : (w ≡ 1 → ⊥) → distance_into w at place ≡ answer.Bits (distance_bits w at place)
+    pub in_four : (w ≡ 1 → ⊥) → distance_into w at place ≡ Some (distance_bits w at place)
     in_four n = rw (ne_eqb w 1 n)
 
-    pub in_one : w ≡ 1 → near at place ≡ true → distance_into w at place ≡ answer.Bits (distance_bits 1 at place)
+    pub in_one : w ≡ 1 → near at place ≡ true → distance_into w at place ≡ Some (distance_bits 1 at place)
     in_one e n = rw (e, n)
 
-    pub past_one : w ≡ 1 → near at place ≡ false → distance_into w at place ≡ answer.Far
+    pub past_one : w ≡ 1 → near at place ≡ false → distance_into w at place ≡ None
     past_one e n = rw (e, n)
 
 -- an operand by its family: a mark is 1 more than what it stands for
-abbrev pub bits_in : ℕ → ℕ → ℕ → ℕ → ℕ → List ℕ → List ℕ → NewBits
+abbrev pub bits_in : ℕ → ℕ → ℕ → ℕ → ℕ → List ℕ → List ℕ → Option ℕ
 bits_in c d at new bits map ids =
-    pick (eqb (family_of c) 3) (answer.Bits (get_or ids bits 0 - 1))
-    (pick (eqb (family_of c) 4) (distance_into (width_of d) new (target_mark (width_of c) at bits map - 1)) (answer.Bits bits))
+    pick (eqb (family_of c) 3) (Some (get_or ids bits 0 - 1))
+    (pick (eqb (family_of c) 4) (distance_into (width_of d) new (target_mark (width_of c) at bits map - 1)) (Some bits))
 
 module _ (c d at new bits : ℕ) (map ids : List ℕ) where
-  pub string_bits : family_of c ≡ 3 → bits_in c d at new bits map ids ≡ answer.Bits (get_or ids bits 0 - 1)
+  pub string_bits : family_of c ≡ 3 → bits_in c d at new bits map ids ≡ Some (get_or ids bits 0 - 1)
   string_bits f = rw f
 
   pub target_bits : family_of c ≡ 4 → bits_in c d at new bits map ids ≡ distance_into (width_of d) new (target_mark (width_of c) at bits map - 1)
   target_bits f = rw f
 
-  pub rest_bits : (family_of c ≡ 3 → ⊥) → (family_of c ≡ 4 → ⊥) → bits_in c d at new bits map ids ≡ answer.Bits bits
+  pub rest_bits : (family_of c ≡ 3 → ⊥) → (family_of c ≡ 4 → ⊥) → bits_in c d at new bits map ids ≡ Some bits
   rest_bits n o = rw (ne_eqb (family_of c) 3 n, ne_eqb (family_of c) 4 o)
 
 -- the Addr of one byte
@@ -122,22 +122,22 @@ module _ (x : Carrying) (i at q c d bits : ℕ) (p : Passed (operand_cases x i a
   unfolding family_of
   other_near n = both_no_left (eqb d 9) _ (ne_eqb d 9 (λ e. n (same_family ∙ ap family_of e)))
 
-  module _ (map ids : List ℕ) (m : Mapped x map) (t : Translated x.from.bytes x.from.ends x.into.bytes x.into.ends ids) (new : ℕ) (here : new ≡ get_or x.moved i 0) where
+  module _ (map ids : List ℕ) (m : Marked x map ids) (new : ℕ) (here : new ≡ get_or x.moved i 0) where
     abbrev goal : Type 0
-    goal = bits_in c d at new bits map ids ≡ pick (is_far x i at c d bits) answer.Far (answer.Bits (new_bits x at new c d bits))
+    goal = bits_in c d at new bits map ids ≡ pick (is_far x i at c d bits) None (Some (new_bits x at new c d bits))
 
     of_string : family_of c ≡ 3 → goal
     unfolding new_bits
     of_string f =
         let h = ltb-true bits (length x.from.ends) (checked.has_text_lem f) in
-        let e : get_or ids bits 0 - 1 ≡ or_zero (new_id x bits) = ap (λ (n : ℕ). n - 1) (t.each bits h) ∙ id_marked (new_id x bits) in
-        rw (other_near (λ g. omega arith), f) (ap answer.Bits e)
+        let e : get_or ids bits 0 - 1 ≡ or_zero (new_id x bits) = ap (λ (n : ℕ). n - 1) (m.translated.each bits h) ∙ id_marked (new_id x bits) in
+        rw (other_near (λ g. omega arith), f) (ap Some e)
 
     of_target : family_of c ≡ 4 → goal
     unfolding new_bits
     of_target f =
         let e : target_mark (width_of c) at bits map - 1 ≡ new_place x at c bits =
-        ap (λ (n : ℕ). n - 1) (target_mark_lem x map c at bits m) ∙ is_found (old_target x at c bits) (checked.aimed f) (λ k g. place_marked x.moved (old_target x at c bits) k g) in
+        ap (λ (n : ℕ). n - 1) (target_mark_lem x map c at bits m.mapped) ∙ is_found (old_target x at c bits) (checked.aimed f) (λ k g. place_marked x.moved (old_target x at c bits) k g) in
         rw (f, e, here, addr_one d (sym same_family ∙ f)) refl
 
     of_rest : (family_of c ≡ 3 → ⊥) → (family_of c ≡ 4 → ⊥) → goal
@@ -148,16 +148,16 @@ module _ (x : Carrying) (i at q c d bits : ℕ) (p : Passed (operand_cases x i a
     bits_are = by_eqb (family_of c) 3 of_string λ n. by_eqb (family_of c) 4 of_target λ o. of_rest n o
 
     -- the bits as they were answered, or 8
-    pub bits_near : (n : ℕ) → bits_in c d at new bits map ids ≡ answer.Bits n → (is_far x i at c d bits ≡ false) × (n ≡ new_bits x at new c d bits)
+    pub bits_near : (n : ℕ) → bits_in c d at new bits map ids ≡ Some n → (is_far x i at c d bits ≡ false) × (n ≡ new_bits x at new c d bits)
     bits_near n e =
         by_test (is_far x i at c d bits)
-        (λ h. absurd (let y : answer.Far ≡ answer.Bits n = rw h at (sym bits_are ∙ e) in let z : ◌≡◌ {A = ℕ} 0 1 = cc y in omega arith))
-        (λ h. let y : answer.Bits (new_bits x at new c d bits) ≡ answer.Bits n = rw h at (sym bits_are ∙ e) in
+        (λ h. absurd (let y : None ≡ Some n = rw h at (sym bits_are ∙ e) in cc y))
+        (λ h. let y : Some (new_bits x at new c d bits) ≡ Some n = rw h at (sym bits_are ∙ e) in
         let z : n ≡ new_bits x at new c d bits = cc y in
         (h, z))
 
-    pub bits_far : bits_in c d at new bits map ids ≡ answer.Far → is_far x i at c d bits ≡ true
+    pub bits_far : bits_in c d at new bits map ids ≡ None → is_far x i at c d bits ≡ true
     bits_far e =
         by_test (is_far x i at c d bits)
         (λ h. h)
-        (λ h. absurd (let y : answer.Bits (new_bits x at new c d bits) ≡ answer.Far = rw h at (sym bits_are ∙ e) in let z : ◌≡◌ {A = ℕ} 0 1 = cc y in omega arith))
+        (λ h. absurd (let y : Some (new_bits x at new c d bits) ≡ None = rw h at (sym bits_are ∙ e) in cc y))

@@ -2,18 +2,12 @@
 use Rattle.std.specs.Prelude.{◌≡◌, List, ℕ, suc, ◌<◌, length, get_or}
 use Rattle.lists.specs.Found.{Found}
 use Rattle.lists.specs.Found.Found.{found, missing}
-use Rattle.slices.specs.declared.search.Found as answer
-use Rattle.slices.specs.declared.search.Found.TheVariants.{At}
 use Rattle.spec_strings.specs.Table.{text_of, lookup}
 
 -- what stands for an id: 1 more than the first id with its text in the second table, 0 where that lacks it
 unfoldable pub id_mark : Found → ℕ
 id_mark (found k) = suc k
 id_mark missing = 0
-
--- where a search of the code found something, it lies below n
-abbrev pub FoundBelow : ℕ → answer.Found → Type 0
-FoundBelow n f = (k : ℕ) → f ≡ At k → k < n
 
 -- one for each id of the first table
 pub record Translated (bytes₁ ends₁ bytes₂ ends₂ ids : List ℕ) : Type 0 where

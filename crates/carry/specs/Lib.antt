@@ -1,10 +1,11 @@
+pub mod EmptyRow
 pub mod Plans
 pub mod Opcodes
 pub mod Ids
 pub mod Places
+pub mod Marks
 pub mod Ready
 pub mod NewBits
 pub mod Carried
 pub mod Inputs
 pub mod Prepared
-pub mod Answers

@@ -1,5 +1,5 @@
 -- The map of places: where each instruction goes, by byte position. Assumes nothing.
-use Rattle.std.specs.Prelude.{◌≡◌, List, ℕ, suc, eqb, length, get_or}
+use Rattle.std.specs.Prelude.{◌≡◌, List, ℕ, suc, Result, Ok, Err, eqb, length, get_or}
 use Rattle.lists.specs.Found.{Found}
 use Rattle.lists.specs.Found.Found.{found, missing}
 use Rattle.answers.specs.declared.refusal.Refusal.{Refusal}
@@ -9,8 +9,6 @@ use Rattle.spec_body.specs.Decode.Decoded.{decoded, not_decoded}
 use Rattle.spec_carry.specs.Meaning.{first_place}
 use Rattle.spec_carry.specs.Passes.{Carrying}
 use Rattle.spec_carry.specs.Carry.{carrying}
-use Rattle.carry.specs.declared.places.Marked.{Marked}
-use Rattle.carry.specs.declared.places.Marked.TheVariants.{Instructions, Refused}
 
 -- what stands for a place that was searched: 1 more than where it moves to, 0 where it is none
 unfoldable pub place_mark : List ℕ → Found → ℕ
@@ -22,6 +20,6 @@ abbrev pub Mapped : Carrying → List ℕ → Type 0
 Mapped x map = (p : ℕ) → get_or map p 0 ≡ place_mark x.moved (first_place (eqb p) 0 x.places)
 
 -- a body that is decoded to d has its places in the map, or is refused
-pub data PlacesMarked (a b : Context) (d : Decoded) (size : ℕ) (map : List ℕ) (r : Marked) : Type 0 where
-  marked : (rs : List (List ℕ)) → d ≡ decoded rs → r ≡ Instructions (length rs) → Mapped (carrying a b size rs) map → PlacesMarked a b d size map r
-  refuses : (x : Refusal) → d ≡ not_decoded x → r ≡ Refused x → PlacesMarked a b d size map r
+pub data PlacesMarked (a b : Context) (d : Decoded) (size : ℕ) (map : List ℕ) (r : Result ℕ Refusal) : Type 0 where
+  marked : (rs : List (List ℕ)) → d ≡ decoded rs → r ≡ Ok (length rs) → Mapped (carrying a b size rs) map → PlacesMarked a b d size map r
+  refuses : (x : Refusal) → d ≡ not_decoded x → r ≡ Err x → PlacesMarked a b d size map r

@@ -4,9 +4,10 @@ use Rattle.spec_inputs.specs.Context.{Context}
 use Rattle.carry.specs.Opcodes.{OpcodeRows, NewOpcodes, NewLengths}
 use Rattle.carry.specs.Ids.{Translated}
 use Rattle.carry.specs.Ready.{ZerosBehind}
+use Rattle.carry.specs.declared.opcodes.OpcodeRow.{OpcodeRow}
 
 -- two contexts with these type codes, and the rows of the first one's opcodes
-pub record Between (types types₂ rows : List (List ℕ)) (last : ℕ) (bytes₁ ends₁ bytes₂ ends₂ : List ℕ) : Type 0 where
+pub record Between (types types₂ : List (List ℕ)) (rows : List OpcodeRow) (last : ℕ) (bytes₁ ends₁ bytes₂ ends₂ : List ℕ) : Type 0 where
   pub from : Context
   pub into : Context
   pub types_are : from.types ≡ types
@@ -22,7 +23,7 @@ pub record Between (types types₂ rows : List (List ℕ)) (last : ℕ) (bytes�
   pub zeros₂ : (op : ℕ) → ZerosBehind (get_or types₂ op [])
 
 -- and what stands for the ids of the first table
-pub record Prepared (types types₂ rows : List (List ℕ)) (last : ℕ) (ids : List ℕ) : Type 0 where
+pub record Prepared (types types₂ : List (List ℕ)) (rows : List OpcodeRow) (last : ℕ) (ids : List ℕ) : Type 0 where
   pub bytes₁ : List ℕ
   pub ends₁ : List ℕ
   pub bytes₂ : List ℕ

@@ -1,5 +1,5 @@
 -- What both passes over a body are given. Assumes nothing.
-use Rattle.std.specs.Prelude.{◌≡◌, List, [], ℕ, ◌≤◌, length, get_or}
+use Rattle.std.specs.Prelude.{◌≡◌, List, [], ℕ, ◌≤◌, Option, length, get_or}
 use Rattle.limits.specs.Limits.{body_limit}
 use Rattle.spec_inputs.specs.Context.{Context}
 use Rattle.spec_body.specs.Decode.{decode_body}
@@ -7,9 +7,10 @@ use Rattle.spec_body.specs.Decode.Decoded.{decoded}
 use Rattle.spec_carry.specs.Passes.{Carrying}
 use Rattle.spec_carry.specs.Carry.{carrying}
 use Rattle.carry.specs.Opcodes.{OpcodeRows, NewOpcodes, NewLengths}
-use Rattle.carry.specs.Ids.{Translated}
-use Rattle.carry.specs.Places.{Mapped}
+use Rattle.carry.specs.Marks.{Marked}
 use Rattle.carry.specs.Plans.{Plans}
+use Rattle.carry.specs.declared.plans.Plan.{Plan}
+use Rattle.carry.specs.declared.opcodes.OpcodeRow.{OpcodeRow}
 
 -- behind a code 0 a row has only zeros
 abbrev pub ZerosBehind : List ℕ → Type 0
@@ -17,7 +18,7 @@ ZerosBehind row = (j k : ℕ) → j ≤ k → get_or row j 0 ≡ 0 → get_or ro
 
 -- two contexts with these type codes, the rows of the first one's opcodes, and what stands for the places of a body that decodes
 -- and for the ids of the first table
-pub record Ready (types types₂ rows : List (List ℕ)) (last : ℕ) (s map ids : List ℕ) : Type 0 where
+pub record Ready (types types₂ : List (List ℕ)) (rows : List OpcodeRow) (last : ℕ) (s map ids : List ℕ) : Type 0 where
   pub from : Context
   pub into : Context
   pub types_are : from.types ≡ types
@@ -30,15 +31,14 @@ pub record Ready (types types₂ rows : List (List ℕ)) (last : ℕ) (s map ids
   pub few : length s ≤ body_limit
   pub records : List (List ℕ)
   pub decodes : decode_body types last s ≡ decoded records
-  pub mapped : Mapped (carrying from into (length s) records) map
-  pub translated : Translated from.bytes from.ends into.bytes into.ends ids
+  pub marked : Marked (carrying from into (length s) records) map ids
 
 -- what is carried then
-abbrev pub carrying_in : {types types₂ rows : List (List ℕ)} {last : ℕ} {s map ids : List ℕ} → Ready types types₂ rows last s map ids → Carrying
+abbrev pub carrying_in : {types types₂ : List (List ℕ)} {rows : List OpcodeRow} {last : ℕ} {s map ids : List ℕ} → Ready types types₂ rows last s map ids → Carrying
 carrying_in {s = s} g = carrying g.from g.into (length s) g.records
 
 -- and a plan for each operand of each opcode
-pub record Planned (plans rows : List (List ℕ)) (s map ids : List ℕ) : Type 0 where
+pub record Planned (plans : List (List (Option Plan))) (rows : List OpcodeRow) (s map ids : List ℕ) : Type 0 where
   pub types : List (List ℕ)
   pub types₂ : List (List ℕ)
   pub last : ℕ

@@ -7,48 +7,36 @@ ghost use Rattle.spec_carry.specs.Carry.{table_cases};
 ghost use Rattle.carry.specs.Inputs.{on_inputs, SheetsRead};
 
 use answers::refusal::Refusal;
-use sheet::opcode::Sheet;
-use slices::search::Found;
-
-// Whether the body and both string tables are good; or 18 or 17.
-#[derive(Clone, Copy)]
-pub enum Inputs {
-    Good,
-    Refused(Refusal),
-}
-
-// The largest opcode of the first sheet; or 1.
-#[derive(Clone, Copy)]
-pub enum Sheets {
-    Ready(usize),
-    Refused(Refusal),
-}
+use sheet::opcode::read_sheet;
+use strings::table::StringTable;
 
 // Looks at the body and both string tables: 18 of each, then 17 of each.
-pub fn check_tables(body: &[u8], bytes: &[u8], ends: &[u32], bytes2: &[u8], ends2: &[u32]) -> Inputs
-    ensures { (rest : Outcome) → unless_case (table_cases body.now bytes.now ends.now bytes2.now ends2.now) rest ≡ on_inputs result rest }
+pub fn check_tables(
+    body: &[u8],
+    strings: StringTable<'_>,
+    strings2: StringTable<'_>,
+) -> Result<(), Refusal>
+    ensures { (rest : Outcome) → unless_case (table_cases body.now strings.entry.bytes.now strings.entry.ends.now strings2.entry.bytes.now strings2.entry.ends.now) rest ≡ on_inputs result rest }
 {
     if limits::BODY_LIMIT < body.len() {
-        return Inputs::Refused(Refusal::TooLarge);
+        return Err(Refusal::TooLarge);
     }
-    if strings::table::too_large(bytes, ends) {
-        return Inputs::Refused(Refusal::TooLarge);
+    if strings.too_large() {
+        return Err(Refusal::TooLarge);
     }
-    if strings::table::too_large(bytes2, ends2) {
-        return Inputs::Refused(Refusal::TooLarge);
+    if strings2.too_large() {
+        return Err(Refusal::TooLarge);
     }
-    let first = strings::table::find_fault(bytes, ends);
-    if let Found::At(id) = first {
-        return Inputs::Refused(Refusal::BadString(id));
+    if let Some(id) = strings.find_fault() {
+        return Err(Refusal::BadString(id));
     }
-    let second = strings::table::find_fault(bytes2, ends2);
-    if let Found::At(id) = second {
-        return Inputs::Refused(Refusal::BadString(id));
+    if let Some(id) = strings2.find_fault() {
+        return Err(Refusal::BadString(id));
     }
-    Inputs::Good
+    Ok(())
 }
 
-// Reads both sheets into their tables, which are empty.
+// Reads both sheets into their tables, which are empty: the largest opcode of the first; or 1.
 pub(crate) fn read_sheets(
     sheet: &[u8],
     sheet2: &[u8],
@@ -56,19 +44,11 @@ pub(crate) fn read_sheets(
     ops: &mut [[usize; 4]; 256],
     types2: &mut [[u8; 8]; 256],
     ops2: &mut [[usize; 4]; 256],
-) -> Sheets
+) -> Result<usize, Refusal>
     requires { (types.old ≡ no_type_rows) × (ops.old ≡ no_info_rows) × (types2.old ≡ no_type_rows) × (ops2.old ≡ no_info_rows) }
     ensures { SheetsRead sheet.now sheet2.now types.new ops.new types2.new ops2.new result }
 {
-    let first = sheet::opcode::read_sheet(sheet, types, ops);
-    match first {
-        Sheet::Malformed(line) => Sheets::Refused(Refusal::Malformed(line)),
-        Sheet::Read(read) => {
-            let second = sheet::opcode::read_sheet(sheet2, types2, ops2);
-            match second {
-                Sheet::Malformed(line) => Sheets::Refused(Refusal::Malformed(line)),
-                Sheet::Read(_) => Sheets::Ready(read.largest),
-            }
-        }
-    }
+    let first = read_sheet(sheet, types, ops)?;
+    read_sheet(sheet2, types2, ops2)?;
+    Ok(first.largest)
 }

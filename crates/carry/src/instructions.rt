@@ -7,146 +7,128 @@ ghost use Rattle.limits.specs.Limits.{body_limit};
 ghost use Rattle.spec_sheet.specs.Row.{count_of};
 ghost use Rattle.spec_body.specs.Record.{pairs};
 ghost use Rattle.spec_carry.specs.Passes.{Carrying};
-ghost use Rattle.carry.specs.Ids.{Translated};
-ghost use Rattle.carry.specs.Places.{Mapped};
+ghost use Rattle.carry.specs.Marks.{Marked};
 ghost use Rattle.carry.specs.Plans.{Planning, Instruction};
 ghost use Rattle.carry.specs.Ready.{ZerosBehind, Planned, carrying_in};
-ghost use Rattle.carry.specs.Carried.{first_far, OperandsCarried, InstructionCarried, keep_first, ended_with, BytesCarried};
+ghost use Rattle.carry.specs.Carried.{OperandsCarried, InstructionCarried, keep_first, ended_with, BytesCarried};
 
-use crate::opcodes::{COPIED, LENGTH, MISSING, NEW_LENGTH, OPCODE, OTHER_COUNT, STATE};
-use crate::operand_carry::Carried;
+use crate::marks::Marks;
+use crate::new_bits::Place;
+use crate::opcodes::{OpcodeRow, State};
+use crate::operand_carry::carry_operand;
+use crate::plans::Plan;
 use answers::refusal::{OperandFault, Refusal};
 use numbers::words::put_word;
 use slices::block::make_room;
 use slices::write::put_bytes;
 
-// The next place in the block and the first operand that does not reach its target, counted from 1, or 0 where all do; or what
-// is wrong with which operand.
+// The next place in the block, and the first operand that does not reach its target, counted from 1.
 #[derive(Clone, Copy)]
-pub enum Operands {
-    Done(usize, usize),
-    Refused(OperandFault, usize),
+pub struct Operands {
+    pub next: usize,
+    pub far: Option<usize>,
 }
 
-// How many bytes the result has, or the first refusal.
+// What is wrong with which operand, counted from 1.
 #[derive(Clone, Copy)]
-pub enum Bytes {
-    Written(usize),
-    Refused(Refusal),
+pub struct OperandRefusal {
+    pub fault: OperandFault,
+    pub operand: usize,
 }
 
-// The first operand that does not reach its target, where `far` is that of the operands before q.
-fn first_far(far: usize, is_far: bool, q: usize) -> usize
-    ensures { result ≡ first_far far is_far q }
-{
-    if far != 0 {
-        return far;
-    }
-    if is_far { q } else { 0 }
-}
-
-// Carries the operands of the instruction that stood at `at` and stands at `new`, by their plans.
+// Carries the operands of an instruction by their plans.
 fn carry_operands(
-    plans: [u16; 8],
+    plans: [Option<Plan>; 8],
     s: &[u8],
-    at: usize,
-    new: usize,
-    map: &[u32],
-    ids: &[u32],
+    place: Place,
+    marks: Marks<'_>,
     block: &mut [u8],
     k: usize,
-) -> Operands
-    requires { Planning plans s.now at × (length s.now ≤ body_limit) × (new < 2 ^ 32) }
-    ensures { (g : Planning plans s.now at) (x : Carrying) (i : ℕ) → Mapped x map.now → Translated x.«from».bytes x.«from».ends x.into.bytes x.into.ends ids.now → ZerosBehind g.row → ZerosBehind g.row' → count_of g.row ≡ count_of g.row' → new ≡ get_or x.moved i 0 → OperandsCarried x i at new g.row g.row' (pairs g.row s.now (at + 1)) block.old k block.new result }
+) -> Result<Operands, OperandRefusal>
+    requires { Planning plans s.now place.old × (length s.now ≤ body_limit) × (place.new < 2 ^ 32) }
+    ensures { (g : Planning plans s.now place.old) (x : Carrying) (i : ℕ) → Marked x marks.entry.places.now marks.entry.ids.now → ZerosBehind g.row → ZerosBehind g.row' → count_of g.row ≡ count_of g.row' → place.new ≡ get_or x.moved i 0 → OperandsCarried x i place.old place.new g.row g.row' (pairs g.row s.now (place.old + 1)) block.old k block.new result }
 {
-    let mut n = k;
-    let mut far: usize = 0;
-    let mut p = at + 1;
-    let mut j: usize = 0;
-    while j < 8 {
-        let plan = plans[j];
-        if plan == 0 {
-            return Operands::Done(n, far);
-        }
-        let r = crate::operand_carry::carry_operand(plan, s, p, at, new, map, ids, block, n);
-        match r {
-            Carried::Done(next, is_far) => {
-                n = next;
-                far = first_far(far, is_far, j + 1);
-            }
-            Carried::Refused(fault) => {
-                return Operands::Refused(fault, j + 1);
+    let mut next = k;
+    let mut far = None;
+    let mut p = place.old + 1;
+    for j in 0..8 {
+        let Some(plan) = plans[j] else {
+            return Ok(Operands { next, far });
+        };
+        match carry_operand(plan, s, p, place, marks, block, next) {
+            Ok(Some(end)) => next = end,
+            Ok(None) => far = far.or(Some(j + 1)),
+            Err(fault) => {
+                return Err(OperandRefusal {
+                    fault,
+                    operand: j + 1,
+                });
             }
         }
-        p += crate::plans::old_width(plan);
-        j += 1;
+        p += usize::from(plan.old_width);
     }
-    Operands::Done(n, far)
+    Ok(Operands { next, far })
 }
 
 // Writes an instruction that keeps its bytes but for the opcode. One word is read and written, with no branch by its operands: a body
 // of four opcodes takes a sixth fewer machine instructions so.
-fn copy_instruction(row: [usize; 4], s: &[u8], at: usize, block: &mut [u8], n: usize) -> usize
-    requires { (at + 8 ≤ length s.now) × (get_or row 1 0 < 256) × (1 ≤ get_or row 2 0) × (get_or row 2 0 ≤ 8) }
-    ensures { ByWords block.old n (get_or row 1 0 ∷ part s.now (at + 1) (get_or row 2 0 - 1)) block.new result }
+fn copy_instruction(row: OpcodeRow, s: &[u8], at: usize, block: &mut [u8], n: usize) -> usize
+    requires { (at + 8 ≤ length s.now) × (row.opcode < 256) × (1 ≤ row.length) × (row.length ≤ 8) }
+    ensures { ByWords block.old n (row.opcode ∷ part s.now (at + 1) (row.length - 1)) block.new result }
 {
     let word = numbers::little_endian::read_of_eight(s, at, 8);
-    let opcode = row[OPCODE] as u64;
-    put_word(block, n, row[LENGTH], word / 256 * 256 + opcode)
+    let opcode = row.opcode as u64;
+    put_word(block, n, row.length, word / 256 * 256 + opcode)
 }
 
-// Carries the instruction that stood at `at` and stands at `new`, by the row and the plans of its opcode.
+// Carries an instruction by the row and the plans of its opcode.
 fn carry_instruction(
-    row: [usize; 4],
-    plans: [u16; 8],
+    row: OpcodeRow,
+    plans: [Option<Plan>; 8],
     s: &[u8],
-    at: usize,
-    new: usize,
-    map: &[u32],
-    ids: &[u32],
+    place: Place,
+    marks: Marks<'_>,
     block: &mut [u8],
     n: usize,
-) -> Operands
-    requires { Instruction row plans s.now at × (length s.now ≤ body_limit) × (new < 2 ^ 32) }
-    ensures { (g : Instruction row plans s.now at) (x : Carrying) (i : ℕ) → Mapped x map.now → Translated x.«from».bytes x.«from».ends x.into.bytes x.into.ends ids.now → ZerosBehind g.planning.row → ZerosBehind g.planning.row' → count_of g.planning.row ≡ count_of g.planning.row' → new ≡ get_or x.moved i 0 → InstructionCarried x i at new (get_or row 1 0) g.planning.row g.planning.row' (pairs g.planning.row s.now (at + 1)) block.old n block.new result }
+) -> Result<Operands, OperandRefusal>
+    requires { Instruction row plans s.now place.old × (length s.now ≤ body_limit) × (place.new < 2 ^ 32) }
+    ensures { (g : Instruction row plans s.now place.old) (x : Carrying) (i : ℕ) → Marked x marks.entry.places.now marks.entry.ids.now → ZerosBehind g.planning.row → ZerosBehind g.planning.row' → count_of g.planning.row ≡ count_of g.planning.row' → place.new ≡ get_or x.moved i 0 → InstructionCarried x i place.old place.new row.opcode g.planning.row g.planning.row' (pairs g.planning.row s.now (place.old + 1)) block.old n block.new result }
 {
-    if row[STATE] == COPIED {
-        if at + 8 <= s.len() {
-            return Operands::Done(copy_instruction(row, s, at, block, n), 0);
-        }
+    if row.state == State::Copied && place.old + 8 <= s.len() {
+        return Ok(Operands {
+            next: copy_instruction(row, s, place.old, block, n),
+            far: None,
+        });
     }
-    let b = put_word(block, n, 1, row[OPCODE] as u64);
-    carry_operands(plans, s, at, new, map, ids, block, b)
+    let b = put_word(block, n, 1, row.opcode as u64);
+    carry_operands(plans, s, place, marks, block, b)
 }
 
-// The first 8 of a body: its instruction, counted from 0, and its operand, counted from 1; no operand where there is none.
+// An 8: its instruction, counted from 0, and its operand, counted from 1.
 #[derive(Clone, Copy)]
 pub struct Far {
     pub instruction: usize,
     pub operand: usize,
 }
 
-// The first 8, where `far` is that of the instructions before i.
-fn keep_first(far: Far, i: usize, operand: usize) -> Far
-    ensures { result ≡ keep_first far i operand }
+// The first 8, where `first` is that of the instructions before i, and `far` the operand of i that has one.
+fn keep_first(first: Option<Far>, i: usize, far: Option<usize>) -> Option<Far>
+    ensures { result ≡ keep_first first i far }
 {
-    if far.operand == 0 {
-        return Far {
-            instruction: i,
-            operand,
-        };
-    }
-    far
+    first.or(far.map(|operand| Far {
+        instruction: i,
+        operand,
+    }))
 }
 
 // How a body ends whose first pass is over: k bytes are written, or there is an 8.
-fn ended(k: usize, far: Far) -> Bytes
-    ensures { result ≡ ended_with k far }
+fn ended(k: usize, first: Option<Far>) -> Result<usize, Refusal>
+    ensures { result ≡ ended_with k first }
 {
-    if far.operand == 0 {
-        return Bytes::Written(k);
+    match first {
+        None => Ok(k),
+        Some(far) => Err(Refusal::BadOperand(OperandFault::Distance, far.instruction, far.operand)),
     }
-    Bytes::Refused(Refusal::BadOperand(OperandFault::Distance, far.instruction, far.operand))
 }
 
 // Instructions are gathered in a block, so that they are written by words.
@@ -155,55 +137,46 @@ const BLOCK: usize = 2048;
 // Where a block may be and still have room for an instruction of 65 bytes and a word.
 const INSTRUCTION_START: usize = 1968;
 
-// Carries all instructions of a body, from the front of the output on.
+// Carries all instructions of a body, from the front of the output on: how many bytes it has, or the first refusal.
 pub(crate) fn carry_instructions(
-    plans: &[[u16; 8]; 256],
-    rows: &[[usize; 4]; 256],
+    plans: &[[Option<Plan>; 8]; 256],
+    rows: &[OpcodeRow; 256],
     s: &[u8],
-    map: &[u32],
-    ids: &[u32],
+    marks: Marks<'_>,
     out: &mut [u8],
-) -> Bytes
-    requires { Planned plans.now rows.now s.now map.now ids.now }
-    ensures { (g : Planned plans.now rows.now s.now map.now ids.now) → BytesCarried (carrying_in g.ready) g.ready.records out.old out.new result }
+) -> Result<usize, Refusal>
+    requires { Planned plans.now rows.now s.now marks.places.now marks.ids.now }
+    ensures { (g : Planned plans.now rows.now s.now marks.entry.places.now marks.entry.ids.now) → BytesCarried (carrying_in g.ready) g.ready.records out.old out.new result }
 {
     let mut block = [0u8; BLOCK];
     let mut n: usize = 0;
     let mut k: usize = 0;
     let mut new: usize = 0;
     let mut i: usize = 0;
-    let mut far = Far {
-        instruction: 0,
-        operand: 0,
-    };
+    let mut first = None;
     let mut at: usize = 0;
     while at < s.len() {
         let gathered = make_room(out, k, &block, n, INSTRUCTION_START);
         k = gathered.next;
-        n = gathered.kept;
         let op = s[at] as usize;
         let row = rows[op];
-        let state = row[STATE];
-        if state == MISSING {
-            return Bytes::Refused(Refusal::UnknownName(i));
+        match row.state {
+            State::Missing => return Err(Refusal::UnknownName(i)),
+            State::OtherCount => return Err(Refusal::OperandCount(i)),
+            State::Known | State::Copied => {}
         }
-        if state == OTHER_COUNT {
-            return Bytes::Refused(Refusal::OperandCount(i));
-        }
-        let r = carry_instruction(row, plans[op], s, at, new, map, ids, &mut block, n);
-        match r {
-            Operands::Done(next, operand) => {
-                n = next;
-                far = keep_first(far, i, operand);
+        let place = Place { old: at, new };
+        match carry_instruction(row, plans[op], s, place, marks, &mut block, gathered.kept) {
+            Ok(done) => {
+                n = done.next;
+                first = keep_first(first, i, done.far);
             }
-            Operands::Refused(fault, operand) => {
-                return Bytes::Refused(Refusal::BadOperand(fault, i, operand));
-            }
+            Err(bad) => return Err(Refusal::BadOperand(bad.fault, i, bad.operand)),
         }
-        new += row[NEW_LENGTH];
-        at += row[LENGTH];
+        new += row.new_length;
+        at += row.length;
         i += 1;
     }
     let end = put_bytes(out, k, &block[0..n]);
-    ended(end, far)
+    ended(end, first)
 }

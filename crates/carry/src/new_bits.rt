@@ -3,58 +3,50 @@
 ghost use Rattle.std.specs.Prelude.{◌≡◌, ℕ, ◌+◌, ◌-◌, ◌*◌, ◌/◌, ◌^◌, ◌<◌, ◌≤◌, get_or};
 ghost use Rattle.limits.specs.Limits.{body_limit};
 ghost use Rattle.spec_carry.specs.Passes.{Carrying, near, distance_bits};
-ghost use Rattle.carry.specs.Ids.{Translated};
-ghost use Rattle.carry.specs.Places.{Mapped};
-ghost use Rattle.carry.specs.Plans.{old_width, plan_of, IsPlan};
+ghost use Rattle.carry.specs.Marks.{marked, Marked};
+ghost use Rattle.carry.specs.Plans.{planned, IsPlan};
 ghost use Rattle.carry.specs.NewBits.{AddrWidth, number_into, id_into, target_mark, distance_into, address_into, Moved};
 
-use crate::plans::{ADDR, KEEPS, NUMBER, STRING, new_width, old_width};
+use crate::marks::{Marks, marked};
+use crate::plans::{Action, Plan};
 use answers::refusal::OperandFault;
-use slices::widen::wide;
 
-// What is written of an operand; that an Addr8 does not reach its target, 8; or the first pass's refusal.
+// Where an instruction stood, and where it stands in the result.
 #[derive(Clone, Copy)]
-pub enum NewBits {
-    Bits(u64),
-    Far,
-    Refused(OperandFault),
+pub struct Place {
+    pub old: usize,
+    pub new: usize,
 }
 
 // A number into a type of w bytes.
-fn number_into(w: usize, n: u64) -> NewBits
+fn number_into(w: usize, n: u64) -> Result<u64, OperandFault>
     ensures { result ≡ number_into w n }
 {
     if operand::write::fits_in(w, n) {
-        return NewBits::Bits(n);
+        return Ok(n);
     }
-    NewBits::Refused(OperandFault::NotCarried)
+    Err(OperandFault::NotCarried)
 }
 
 // The second table's id of a text, by its id in the first, into a type of w bytes.
-fn id_into(w: usize, id: u64, ids: &[u32]) -> NewBits
+fn id_into(w: usize, id: u64, ids: &[u32]) -> Result<u64, OperandFault>
     ensures { result ≡ id_into w id ids.now }
 {
-    let k = id as usize;
-    if ids.len() <= k {
-        return NewBits::Refused(OperandFault::NotCarried);
-    }
-    let mark = wide(ids[k]);
-    if mark == 0 {
-        return NewBits::Refused(OperandFault::Text);
-    }
-    let new = mark - 1;
+    let Some(&mark) = ids.get(id as usize) else {
+        return Err(OperandFault::NotCarried);
+    };
+    let Some(new) = marked(mark) else {
+        return Err(OperandFault::Text);
+    };
     number_into(w, new as u64)
 }
 
-// What a map has at a place, 0 behind its end.
-fn mark_at(map: &[u32], place: u64) -> usize
-    ensures { result ≡ get_or map.now place 0 }
+// The new place that a map has at an old one.
+fn place_at(map: &[u32], place: u64) -> Option<usize>
+    ensures { result ≡ marked (get_or map.now place 0) }
 {
-    let p = place as usize;
-    if p < map.len() {
-        return wide(map[p]);
-    }
-    0
+    let &mark = map.get(place as usize)?;
+    marked(mark)
 }
 
 // How many numbers the w bytes of an Addr hold. The upper half stands for negative distances.
@@ -68,20 +60,20 @@ fn numbers_of(w: usize) -> u64
     0x1_0000_0000
 }
 
-// What stands for the place that an Addr of w bytes leads to.
-fn target_mark(w: usize, at: usize, bits: u64, map: &[u32]) -> usize
+// The new place of what an Addr of w bytes leads to.
+fn target(w: usize, at: usize, bits: u64, map: &[u32]) -> Option<usize>
     requires { (at ≤ body_limit) × AddrWidth w × (bits < 256 ^ w) }
-    ensures { result ≡ target_mark w at bits map.now }
+    ensures { result ≡ marked (target_mark w at bits map.now) }
 {
     let numbers = numbers_of(w);
     let sum = at as u64 + bits;
     if bits < numbers / 2 {
-        return mark_at(map, sum);
+        return place_at(map, sum);
     }
     if sum < numbers {
-        return 0;
+        return None;
     }
-    mark_at(map, sum - numbers)
+    place_at(map, sum - numbers)
 }
 
 // Whether an Addr8 reaches from one place to another.
@@ -105,49 +97,60 @@ fn distance_bits(full: usize, at: usize, place: usize) -> usize
     full - (at - place)
 }
 
-// The distance from a place to another in an Addr of w bytes.
-fn distance_into(w: usize, at: usize, place: usize) -> NewBits
+// The distance from a place to another in an Addr of w bytes; none where it does not reach.
+fn distance_into(w: usize, at: usize, place: usize) -> Option<u64>
     requires { (at < 2 ^ 32) × AddrWidth w }
     ensures { result ≡ distance_into w at place }
 {
     if w != 1 {
-        return NewBits::Bits(distance_bits(0x1_0000_0000, at, place) as u64);
+        return Some(distance_bits(0x1_0000_0000, at, place) as u64);
     }
     if is_near(at, place) {
-        return NewBits::Bits(distance_bits(0x100, at, place) as u64);
+        return Some(distance_bits(0x100, at, place) as u64);
     }
-    NewBits::Far
+    None
 }
 
-// An Addr of the instruction that stood at `at` and stands at `new`, by its widths under both sheets.
-fn address_into(w: usize, w2: usize, at: usize, new: usize, bits: u64, map: &[u32]) -> NewBits
-    requires { (at ≤ body_limit) × (new < 2 ^ 32) × AddrWidth w × AddrWidth w2 × (bits < 256 ^ w) }
-    ensures { result ≡ address_into w2 new (target_mark w at bits map.now) }
-{
-    let mark = target_mark(w, at, bits, map);
-    if mark == 0 {
-        return NewBits::Refused(OperandFault::Address);
-    }
-    distance_into(w2, new, mark - 1)
-}
-
-// The operand of a plan, with these bits, of the instruction that stood at `at` and stands at `new`.
-pub(crate) fn new_bits(
-    plan: u16,
-    at: usize,
-    new: usize,
+// An Addr, by its widths under both sheets.
+fn address_into(
+    w: usize,
+    w2: usize,
+    place: Place,
     bits: u64,
     map: &[u32],
-    ids: &[u32],
-) -> NewBits
-    requires { IsPlan plan × (at ≤ body_limit) × (new < 2 ^ 32) × (bits < 256 ^ old_width plan) }
-    ensures { (x : Carrying) (i q c d : ℕ) → Mapped x map.now → Translated x.«from».bytes x.«from».ends x.into.bytes x.into.ends ids.now → new ≡ get_or x.moved i 0 → (c ≡ 0 → ⊥) → plan ≡ plan_of c d → Moved x i at q new c d bits result }
+) -> Result<Option<u64>, OperandFault>
+    requires { (place.old ≤ body_limit) × (place.new < 2 ^ 32) × AddrWidth w × AddrWidth w2 × (bits < 256 ^ w) }
+    ensures { result ≡ address_into w2 place.new (target_mark w place.old bits map.now) }
 {
-    match plan / 256 {
-        KEEPS => NewBits::Bits(bits),
-        NUMBER => number_into(new_width(plan), bits),
-        STRING => id_into(new_width(plan), bits, ids),
-        ADDR => address_into(old_width(plan), new_width(plan), at, new, bits, map),
-        _ => NewBits::Refused(OperandFault::NotCarried),
+    let Some(target) = target(w, place.old, bits, map) else {
+        return Err(OperandFault::Address);
+    };
+    Ok(distance_into(w2, place.new, target))
+}
+
+// The operand of a plan, with these bits: what is written of it, or none where an Addr8 does not reach its target, 8; or the first
+// pass's refusal.
+pub(crate) fn new_bits(
+    plan: Plan,
+    place: Place,
+    bits: u64,
+    marks: Marks<'_>,
+) -> Result<Option<u64>, OperandFault>
+    requires { IsPlan plan × (place.old ≤ body_limit) × (place.new < 2 ^ 32) × (bits < 256 ^ plan.old_width) }
+    ensures { (x : Carrying) (i q c d : ℕ) → Marked x marks.entry.places.now marks.entry.ids.now → place.new ≡ get_or x.moved i 0 → plan ≡ planned c d → Moved x i place.old q place.new c d bits result }
+{
+    let width = usize::from(plan.new_width);
+    match plan.action {
+        Action::Keeps => Ok(Some(bits)),
+        Action::Number => Ok(Some(number_into(width, bits)?)),
+        Action::String => Ok(Some(id_into(width, bits, marks.ids)?)),
+        Action::Addr => address_into(
+            usize::from(plan.old_width),
+            width,
+            place,
+            bits,
+            marks.places,
+        ),
+        Action::OtherFamily => Err(OperandFault::NotCarried),
     }
 }

@@ -7,23 +7,16 @@ ghost use Rattle.spec_body.specs.Decode.{decode_body};
 ghost use Rattle.carry.specs.Opcodes.{OpcodeRows, RowsKnown};
 ghost use Rattle.carry.specs.Places.{PlacesMarked};
 
-use crate::opcodes::{LENGTH, NEW_LENGTH};
+use crate::opcodes::OpcodeRow;
 use answers::refusal::Refusal;
 
-// How many instructions a body has; or 13 or 14.
-#[derive(Clone, Copy)]
-pub enum Marked {
-    Instructions(usize),
-    Refused(Refusal),
-}
-
-// Marks the places of a body in a map of zeros.
+// Marks the places of a body in a map of zeros: how many instructions it has; or 13 or 14.
 pub(crate) fn mark_places(
-    rows: &[[usize; 4]; 256],
+    rows: &[OpcodeRow; 256],
     last: usize,
     s: &[u8],
     map: &mut [u32],
-) -> Marked
+) -> Result<usize, Refusal>
     requires { RowsKnown last rows.now × (length s.now ≤ body_limit) × (length s.now < length map.old) × (map.old ≡ replicate (length map.old) 0) }
     ensures { (a b : Context) → OpcodeRows a b last rows.now → PlacesMarked a b (decode_body a.types last s.now) (length s.now) map.new result }
 {
@@ -33,18 +26,17 @@ pub(crate) fn mark_places(
     while at < s.len() {
         let op = s[at] as usize;
         if last < op {
-            return Marked::Refused(Refusal::Beyond(at));
+            return Err(Refusal::Beyond(at));
         }
         let row = rows[op];
-        let size = row[LENGTH];
-        if s.len() - at < size {
-            return Marked::Refused(Refusal::Cut(at));
+        if s.len() - at < row.length {
+            return Err(Refusal::Cut(at));
         }
         map[at] = new as u32 + 1;
-        new += row[NEW_LENGTH];
-        at += size;
+        new += row.new_length;
+        at += row.length;
         n += 1;
     }
     map[at] = new as u32 + 1;
-    Marked::Instructions(n)
+    Ok(n)
 }

@@ -1,68 +1,63 @@
-// What is to be done with each operand of each opcode, made once for a body, so that the loop over operands tests one number and
-// looks no family and no width up.
+// What is to be done with each operand of each opcode, made once for a body, so that the loop over operands looks no family and no
+// width up.
 ghost use Rattle.std.specs.Prelude.{◌≡◌, ◌≤◌};
 ghost use Rattle.carry.specs.Opcodes.{NewOpcodes};
-ghost use Rattle.carry.specs.Plans.{action_of, keeps_type, keeps_all, copied, plan_of, old_width, new_width, RowPlanned, Plans};
+ghost use Rattle.carry.specs.Plans.{action_of, keeps_type, keeps_all, copied, plan_of, RowPlanned, Plans};
 
-use crate::opcodes::OPCODE;
-use sheet::operand_types::{ADDR_FAMILY, REG_FAMILY, STRING_FAMILY, UINT_FAMILY};
+use crate::opcodes::OpcodeRow;
+use sheet::family::Family;
 
-// The actions: the operand keeps its bytes; it is a register or number of another width, which has to fit; the id of a string; an
-// Addr; or it has another family under the second sheet, which refuses it.
-pub const KEEPS: u16 = 1;
+// What is to be done with an operand.
+#[derive(Clone, Copy, PartialEq, Eq)]
+pub enum Action {
+    Keeps, // its bytes stay
+    Number, // a register or number of another width, which has to fit
+    String, // the id of a string
+    Addr,
+    OtherFamily, // the second sheet has another family there, which refuses it
+}
 
-pub const NUMBER: u16 = 2;
-
-pub const STRING: u16 = 3;
-
-pub const ADDR: u16 = 4;
-
-pub const OTHER_FAMILY: u16 = 5;
+// What is to be done with an operand, and its bytes under both sheets. The widths are bytes, so that the table of all plans is small.
+#[derive(Clone, Copy)]
+pub struct Plan {
+    pub action: Action,
+    pub old_width: u8,
+    pub new_width: u8,
+}
 
 // What is to be done with an operand of type c under the first sheet and d under the second.
-fn action_of(c: u8, d: u8) -> u16
-    ensures { (result ≡ action_of c d) × (result ≤ 5) }
+fn action_of(c: u8, d: u8) -> Action
+    ensures { result ≡ action_of c d }
 {
     let family = sheet::operand_types::family(c);
     if family != sheet::operand_types::family(d) {
-        return OTHER_FAMILY;
+        return Action::OtherFamily;
     }
-    if family == STRING_FAMILY {
-        return STRING;
+    match family {
+        Family::Str => Action::String,
+        Family::Addr => Action::Addr,
+        Family::Reg | Family::UInt => {
+            if c == d {
+                Action::Keeps
+            } else {
+                Action::Number
+            }
+        }
+        Family::NoOperand | Family::Imm32 | Family::Double => Action::Keeps,
     }
-    if family == ADDR_FAMILY {
-        return ADDR;
-    }
-    if c == d {
-        return KEEPS;
-    }
-    if family == REG_FAMILY {
-        return NUMBER;
-    }
-    if family == UINT_FAMILY { NUMBER } else { KEEPS }
 }
 
 // Whether an operand has one type under both sheets and keeps its bytes.
 fn keeps_type(c: u8, d: u8) -> bool
     ensures { result ≡ keeps_type c d }
 {
-    if c != d {
-        return false;
-    }
-    action_of(c, d) == KEEPS
+    c == d && matches!(action_of(c, d), Action::Keeps)
 }
 
 fn keeps_all(row: [u8; 8], new: [u8; 8]) -> bool
     ensures { result ≡ keeps_all row new }
 {
-    let mut j: usize = 0;
-    while j < 8 {
-        if !keeps_type(row[j], new[j]) {
-            return false;
-        }
-        j += 1;
-    }
-    true
+    row.iter().zip(new.iter()).all(|(&c, &d)| keeps_type(c, d))
 }
 
 // Whether an instruction of at most eight bytes keeps all of them but its opcode.
@@ -75,39 +70,27 @@ pub(crate) fn is_copied(row: [u8; 8], new: [u8; 8]) -> bool
     keeps_all(row, new)
 }
 
-// The plan: the action, times 256, the first sheet's width, times 16, and the second's; 0 where there is no operand.
-fn plan_of(c: u8, d: u8) -> u16
+// The plan of an operand, where there is one.
+fn plan_of(c: u8, d: u8) -> Option<Plan>
     ensures { result ≡ plan_of c d }
 {
     if c == 0 {
-        return 0;
+        return None;
     }
-    let widths = sheet::operand_types::width(c) * 16 + sheet::operand_types::width(d);
-    action_of(c, d) * 256 + widths as u16
-}
-
-pub(crate) fn old_width(plan: u16) -> usize
-    ensures { result ≡ old_width plan }
-{
-    (plan / 16 % 16) as usize
-}
-
-pub(crate) fn new_width(plan: u16) -> usize
-    ensures { result ≡ new_width plan }
-{
-    (plan % 16) as usize
+    Some(Plan {
+        action: action_of(c, d),
+        old_width: sheet::operand_types::width(c) as u8,
+        new_width: sheet::operand_types::width(d) as u8,
+    })
 }
 
 // The plans of an opcode's operands.
-fn plan_row(row: [u8; 8], new: [u8; 8]) -> [u16; 8]
+fn plan_row(row: [u8; 8], new: [u8; 8]) -> [Option<Plan>; 8]
     ensures { RowPlanned row new result }
 {
-    let mut plans = [0u16; 8];
-    let mut j: usize = 0;
-    while j < 8 {
-        let plan = plan_of(row[j], new[j]);
-        plans[j] = plan;
-        j += 1;
+    let mut plans = [None; 8];
+    for j in 0..8 {
+        plans[j] = plan_of(row[j], new[j]);
     }
     plans
 }
@@ -116,23 +99,15 @@ fn plan_row(row: [u8; 8], new: [u8; 8]) -> [u16; 8]
 pub(crate) fn plan_table(
     types: &[[u8; 8]; 256],
     types2: &[[u8; 8]; 256],
-    rows: &[[usize; 4]; 256],
+    rows: &[OpcodeRow; 256],
     last: usize,
-) -> [[u16; 8]; 256]
+) -> [[Option<Plan>; 8]; 256]
     requires { NewOpcodes last rows.now }
     ensures { Plans types.now types2.now rows.now last result }
 {
-    let mut plans = [[0u16; 8]; 256];
-    let mut op: usize = 0;
-    while op < 256 {
-        if last < op {
-            return plans;
-        }
-        let row = rows[op];
-        let new = row[OPCODE];
-        let planned = plan_row(types[op], types2[new]);
-        plans[op] = planned;
-        op += 1;
+    let mut plans = [[None; 8]; 256];
+    for op in 0..=last.min(255) {
+        plans[op] = plan_row(types[op], types2[rows[op].opcode]);
     }
     plans
 }

@@ -1,19 +1,20 @@
 use Rattle.carry.proofs.PassLaws.{between}
 use Rattle.carry.proofs.carry.carry_within.Goals as goal
 
-pub carry_body-requires : goal.carry_body-requires
-carry_body-requires c =
-    let x = c.args in
-    let p = c.requires in
+pub carry_body-answer-requires : goal.carry_body-answer-requires
+carry_body-answer-requires c =
+    let x = c.args.from in
+    let y = c.args.into in
     let r = c.rows_between-rows.ensures in
-    let b = between x.sheet.now x.types.now x.ops.now x.bytes.now x.ends.now x.sheet2.now x.types2.now x.ops2.now x.bytes2.now x.ends2.now _ _ r.opcode_rows r.new_opcodes.0 r.new_opcodes.1 p.by_index.0 p.by_index.1 in
-    (record { bytes₁ = _; ends₁ = _; bytes₂ = _; ends₂ = _; contexts = b; translated = c.translate_in.ensures.translated }, p.s_len_bound.0)
+    let z = c.requires.by_index in
+    let b = between x.tables.text.now x.tables.types.now x.tables.ops.now x.strings.bytes.now x.strings.ends.now y.tables.text.now y.tables.types.now y.tables.ops.now y.strings.bytes.now y.strings.ends.now _ _ r.opcode_rows r.new_opcodes.0 r.new_opcodes.1 z.0 z.1 in
+    (record { bytes₁ = _; ends₁ = _; bytes₂ = _; ends₂ = _; contexts = b; translated = c.translate_in.ensures.translated }, c.requires.s_len_bound.0)
 
-pub returns : goal.returns
-returns c =
-    let x = c.args in
-    let p = c.requires in
+pub returns-clause-ended : goal.returns-clause-ended
+returns-clause-ended c =
+    let x = c.args.from in
+    let y = c.args.into in
     let r = c.rows_between-rows.ensures in
-    let b = between x.sheet.now x.types.now x.ops.now x.bytes.now x.ends.now x.sheet2.now x.types2.now x.ops2.now x.bytes2.now x.ends2.now _ _ r.opcode_rows r.new_opcodes.0 r.new_opcodes.1 p.by_index.0 p.by_index.1 in
-    let t = c.translate_in.ensures in
-    record { ended = c.carry_body.ensures (record { bytes₁ = _; ends₁ = _; bytes₂ = _; ends₂ = _; contexts = b; translated = t.translated }); translated = t.translated; texts_indexed = t.texts_indexed }
+    let z = c.requires.by_index in
+    let b = between x.tables.text.now x.tables.types.now x.tables.ops.now x.strings.bytes.now x.strings.ends.now y.tables.text.now y.tables.types.now y.tables.ops.now y.strings.bytes.now y.strings.ends.now _ _ r.opcode_rows r.new_opcodes.0 r.new_opcodes.1 z.0 z.1 in
+    rw c.settle.ensures (c.carry_body-answer.ensures (record { bytes₁ = _; ends₁ = _; bytes₂ = _; ends₂ = _; contexts = b; translated = c.translate_in.ensures.translated }))

@@ -1,21 +1,17 @@
-use native.Mathlib.Omega.{arith}
-use lib.ListN.{length-set}
-use Rattle.spec_strings.specs.Table.{text_of, lookup}
-use Rattle.carry.proofs.IdLaws.{turn, ended, lookup_below}
+use mathlib.Core.Path.{ap, ◌∙◌}
+use Rattle.carry.specs.Marks.{mark_of}
+use Rattle.carry.proofs.IdLaws.{start, turn, ended, id_fits, mark_is}
 use Rattle.carry.proofs.ids.translate.Goals as goal
 
-pub mark_of-requires : goal.mark_of-requires
-mark_of-requires c = lookup_below _ _ _ _ _ c.lookup_indexed-found.ensures c.requires.2
+pub loop-id-init : goal.loop-id-init
+loop-id-init c = start _ _ _ _ _
 
-pub loop-id-smaller : goal.loop-id-smaller
-loop-id-smaller c = simp length-set (omega arith)
+pub mark_of-requires : goal.mark_of-requires
+mark_of-requires c = rw c.find.ensures (id_fits _ _ _ c.requires.1)
 
 pub loop-id-preserved : goal.loop-id-preserved
 loop-id-preserved c =
-    let a = c.args in
-    let l = c.loop-id in
-    turn _ _ _ _ _ _ _ _ l.invariant c.loop-id-test.true
-    (c.mark_of.ensures (lookup (text_of a.bytes.now a.ends.now l.id) a.bytes2.now a.ends2.now) (rw c.text_of-text.ensures at c.lookup_indexed-found.ensures))
+    turn _ _ _ _ _ _ _ _ c.loop-id.invariant c.loop-id-test.true (c.mark_of.ensures ∙ (ap mark_of (rw c.text_of.ensures at c.find.ensures) ∙ mark_is _))
 
 pub returns : goal.returns
-returns c = ended _ _ _ _ _ _ _ c.loop-id.invariant c.loop-id-test.false c.requires.1
+returns c = ended _ _ _ _ _ _ _ c.loop-id.invariant c.loop-id-test.false c.requires.0

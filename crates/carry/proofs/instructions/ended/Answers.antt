@@ -1,11 +1,11 @@
-use borrow.Author.Tests.{ne_eqb}
+use mathlib.Core.Path.{sym, ap}
 use Rattle.carry.specs.Carried.{ended_with}
 use Rattle.carry.proofs.instructions.ended.Goals as goal
 
-pub returns-then-far-eq0 : goal.returns-then-far-eq0
+pub returns-in-None : goal.returns-in-None
 unfolding ended_with
-returns-then-far-eq0 c = rw c.if-far-eq0.true
+returns-in-None c = sym (ap (ended_with c.args.k) c.in-None.is)
 
-pub returns : goal.returns
+pub returns-in-Some : goal.returns-in-Some
 unfolding ended_with
-returns c = rw (ne_eqb _ _ c.if-far-eq0.false)
+returns-in-Some c = sym (ap (ended_with c.args.k) c.in-Some.is)

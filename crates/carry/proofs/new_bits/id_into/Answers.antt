@@ -1,13 +1,16 @@
 use mathlib.Core.Path.{sym, ◌∙◌}
-use borrow.Author.Tests.{lt-ltb, le-ltb}
-use Rattle.carry.proofs.CheckLaws.{mark_none, mark_some}
+use Rattle.carry.proofs.MarkLaws.{id_text, id_new}
 use Rattle.carry.proofs.new_bits.id_into.Goals as goal
 
-pub returns-then-ids-k : goal.returns-then-ids-k
-returns-then-ids-k c = rw (le-ltb _ _ c.if-ids-k.true)
+pub returns-in_default : goal.returns-in_default
+returns-in_default c = rw (← c.in_default.ensures.lookup.0)
 
-pub returns-then-mark-eq0 : goal.returns-then-mark-eq0
-returns-then-mark-eq0 c = rw (lt-ltb _ _ c.if-ids-k.false) (mark_none _ _ (sym c.wide-mark.ensures.0 ∙ c.if-mark-eq0.true))
+pub returns-in_default-marked : goal.returns-in_default-marked
+returns-in_default-marked c =
+    let h = c.in-Some.ensures.lookup in
+    id_text _ _ _ (sym h.0) (rw (h.3.1 0) at (sym c.marked.ensures ∙ c.in_default-marked.is))
 
 pub returns : goal.returns
-returns c = let w = c.wide-mark.ensures.0 in rw (lt-ltb _ _ c.if-ids-k.false) (mark_some _ _ _ (λ e. c.if-mark-eq0.false (w ∙ e)) (rw w at c.number_into.ensures))
+returns c =
+    let h = c.in-Some.ensures.lookup in
+    c.number_into.ensures ∙ id_new _ _ _ (sym h.0) _ (rw (h.3.1 0) at (sym c.marked.ensures ∙ c.in-Some-marked.is))

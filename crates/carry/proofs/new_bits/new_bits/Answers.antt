@@ -1,38 +1,43 @@
-use mathlib.Core.Path.{refl, sym, ◌∙◌}
-use Rattle.carry.proofs.PlanLaws.{is_kept, is_number, is_string, is_addr, is_other, action_is, old_is, new_is, addr_width}
-use Rattle.carry.proofs.CarriedLaws.{others_moved, number_moved, id_moved, address_moved, kept_moved}
+use mathlib.Core.Path.{ap, sym, ◌∙◌}
+use Rattle.carry.proofs.AnswerLaws.{is_error}
+use Rattle.carry.proofs.PlanLaws.{addr_width, when_addr}
+use Rattle.carry.proofs.CarriedLaws.{action_moved}
+use Rattle.carry.specs.declared.plans.Plan.{Plan}
 use Rattle.carry.proofs.new_bits.new_bits.Goals as goal
 
 pub address_into-requires : goal.address_into-requires
 address_into-requires c =
     let p = c.requires in
     let g = p.0 in
-    let f = is_addr g.c g.d (action_is _ _ _ g.some g.is 4 c.in-4.is) in
-    (p.1, p.2, rw (c.old_width.ensures ∙ old_is _ _ _ g.some g.is) (addr_width g.c f.1), rw (c.new_width-in-4.ensures ∙ new_is _ _ _ g.some g.is) (addr_width g.d (sym f.0 ∙ f.1)), rw c.old_width.ensures p.3)
+    let f = when_addr g.c g.d (sym (ap (λ (p : Plan). p.action) g.is) ∙ c.in-Addr.is) in
+    (p.1, p.2, rw (c.from.ensures ∙ ap (λ (p : Plan). p.old_width) g.is) (addr_width g.c f.0), rw (c.from-width.ensures ∙ ap (λ (p : Plan). p.new_width) g.is) (addr_width g.d f.1), rw c.from.ensures p.3)
 
-pub returns-in-1 : goal.returns-in-1
-returns-in-1 c = λ x i q a d m t here n e.
-    let k = is_kept a d (action_is a d _ n e 1 c.in-1.is) in
-    kept_moved x i c.args.at q c.args.new a d c.args.bits c.args.map.now c.args.ids.now m t here k.0 k.1 k.2 k.3 (rw (old_is a d _ n e) at c.requires.3)
+pub returns-in-Keeps : goal.returns-in-Keeps
+returns-in-Keeps c = λ x i q a d m here e.
+    rw c.in-Keeps.is at (action_moved x i c.args.place.old q c.args.place.new a d c.args.bits _ _ m here _ (ap (λ (p : Plan). p.action) e) (rw (ap (λ (p : Plan). p.old_width) e) at c.requires.3))
 
-pub returns-in-2 : goal.returns-in-2
-returns-in-2 c = λ x i q a d m t here n e.
-    let k = is_number a d (action_is a d _ n e 2 c.in-2.is) in
-    rw (c.number_into.ensures, c.new_width.ensures, new_is a d _ n e) (number_moved x i c.args.at q c.args.new a d c.args.bits c.args.map.now c.args.ids.now m t here k.0 k.1)
+pub returns-in_ok-number_into-in-Number : goal.returns-in_ok-number_into-in-Number
+returns-in_ok-number_into-in-Number c = λ x i q a d m here e.
+    rw (rw (c.from-width.ensures ∙ ap (λ (p : Plan). p.new_width) e) at (sym c.number_into.ensures ∙ c.in_ok-number_into-in-Number.was)) at (rw c.in-Number.is at (action_moved x i c.args.place.old q c.args.place.new a d c.args.bits _ _ m here _ (ap (λ (p : Plan). p.action) e) (rw (ap (λ (p : Plan). p.old_width) e) at c.requires.3)))
 
-pub returns-in-3 : goal.returns-in-3
-returns-in-3 c = λ x i q a d m t here n e.
-    let k = is_string a d (action_is a d _ n e 3 c.in-3.is) in
-    rw (c.id_into.ensures, c.new_width-in-3.ensures, new_is a d _ n e) (id_moved x i c.args.at q c.args.new a d c.args.bits c.args.map.now c.args.ids.now m t here k.0 k.1)
+pub returns-in_err-number_into-in-Number : goal.returns-in_err-number_into-in-Number
+returns-in_err-number_into-in-Number c = λ x i q a d m here e.
+    rw (is_error _ c.from_residual.ensures.1)
+    (rw (rw (c.from-width.ensures ∙ ap (λ (p : Plan). p.new_width) e) at (sym c.number_into.ensures ∙ c.in_err-number_into-in-Number.was)) at (rw c.in-Number.is at (action_moved x i c.args.place.old q c.args.place.new a d c.args.bits _ _ m here _ (ap (λ (p : Plan). p.action) e) (rw (ap (λ (p : Plan). p.old_width) e) at c.requires.3))))
 
-pub returns-in-4 : goal.returns-in-4
-returns-in-4 c = λ x i q a d m t here n e.
-    let k = is_addr a d (action_is a d _ n e 4 c.in-4.is) in
-    rw (c.address_into.ensures, c.new_width-in-4.ensures, new_is a d _ n e, c.old_width.ensures, old_is a d _ n e) (address_moved x i c.args.at q c.args.new a d c.args.bits c.args.map.now c.args.ids.now m t here k.0 k.1)
+pub returns-in_ok-id_into-in-String : goal.returns-in_ok-id_into-in-String
+returns-in_ok-id_into-in-String c = λ x i q a d m here e.
+    rw (rw (c.from-width.ensures ∙ ap (λ (p : Plan). p.new_width) e) at (sym c.id_into.ensures ∙ c.in_ok-id_into-in-String.was)) at (rw c.in-String.is at (action_moved x i c.args.place.old q c.args.place.new a d c.args.bits _ _ m here _ (ap (λ (p : Plan). p.action) e) (rw (ap (λ (p : Plan). p.old_width) e) at c.requires.3)))
 
-pub returns-in_default : goal.returns-in_default
-returns-in_default c = λ x i q a d m t here n e.
-    let r = c.in_default.in_default-own.rest in
-    let u = sym (action_is a d _ n e _ refl) in
-    others_moved x i c.args.at q c.args.new a d c.args.bits c.args.map.now c.args.ids.now m t here
-    (is_other a d (λ z. r.0.0.0.1 (u ∙ z)) (λ z. r.0.0.1 (u ∙ z)) (λ z. r.0.1 (u ∙ z)) (λ z. r.1 (u ∙ z)))
+pub returns-in_err-id_into-in-String : goal.returns-in_err-id_into-in-String
+returns-in_err-id_into-in-String c = λ x i q a d m here e.
+    rw (is_error _ c.from_residual-in_err-id_into-in-String.ensures.1)
+    (rw (rw (c.from-width.ensures ∙ ap (λ (p : Plan). p.new_width) e) at (sym c.id_into.ensures ∙ c.in_err-id_into-in-String.was)) at (rw c.in-String.is at (action_moved x i c.args.place.old q c.args.place.new a d c.args.bits _ _ m here _ (ap (λ (p : Plan). p.action) e) (rw (ap (λ (p : Plan). p.old_width) e) at c.requires.3))))
+
+pub returns-in-Addr : goal.returns-in-Addr
+returns-in-Addr c = λ x i q a d m here e.
+    rw (c.address_into.ensures, c.from-width.ensures ∙ ap (λ (p : Plan). p.new_width) e, c.from.ensures ∙ ap (λ (p : Plan). p.old_width) e) (rw c.in-Addr.is at (action_moved x i c.args.place.old q c.args.place.new a d c.args.bits _ _ m here _ (ap (λ (p : Plan). p.action) e) (rw (ap (λ (p : Plan). p.old_width) e) at c.requires.3)))
+
+pub returns-in-OtherFamily : goal.returns-in-OtherFamily
+returns-in-OtherFamily c = λ x i q a d m here e.
+    rw c.in-OtherFamily.is at (action_moved x i c.args.place.old q c.args.place.new a d c.args.bits _ _ m here _ (ap (λ (p : Plan). p.action) e) (rw (ap (λ (p : Plan). p.old_width) e) at c.requires.3))

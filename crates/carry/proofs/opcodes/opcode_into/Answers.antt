@@ -4,7 +4,7 @@ use Rattle.carry.proofs.opcodes.opcode_into.Goals as goal
 
 pub returns-then-size-eq0 : goal.returns-then-size-eq0
 unfolding text
-returns-then-size-eq0 c = rw (eq-eqb _ 0 c.if-size-eq0.true) c.find_indexed.ensures
+returns-then-size-eq0 c = rw (eq-eqb _ 0 c.if-size-eq0.true) c.find.ensures
 
 pub returns : goal.returns
-returns c = rw (ne_eqb _ 0 c.if-size-eq0.false, ← c.part_of-name.ensures) c.find_indexed-2.ensures
+returns c = rw (ne_eqb _ 0 c.if-size-eq0.false, ← c.part_of.ensures) c.find-2.ensures

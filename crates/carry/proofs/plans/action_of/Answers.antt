@@ -1,34 +1,27 @@
-use mathlib.Core.Path.{refl, sym}
-use native.Mathlib.Omega.{arith}
-use borrow.Author.Tests.{eq-eqb, ne_eqb}
-use Rattle.carry.specs.Plans.{action_of}
-use Rattle.carry.proofs.CheckLaws.{outside}
+use mathlib.Core.Path.{sym, ◌∙◌}
+use denote.Enum.Bare.{same_true, same_false}
+use borrow.Author.Rules.{rules}
+use borrow.Author.Tests.{not-true, not-false}
+use Rattle.sheet.specs.contracts.family.Family.{the_type}
+use Rattle.carry.proofs.FamilyLaws.{in_family, two_families, one_family, numbers_same, numbers_differ, keeps_others}
 use Rattle.carry.proofs.plans.action_of.Goals as goal
 
-pub returns-then-family : goal.returns-then-family
-unfolding action_of
-returns-then-family c = rw (sym c.family-family.ensures, sym c.family.ensures, ne_eqb _ _ c.if-family.true) (refl, omega arith)
+pub returns-then-ne : goal.returns-then-ne
+returns-then-ne c = two_families _ _ _ _ c.family-family.ensures c.family.ensures (same_false the_type _ _ (not-true _ (sym c.if-ne.ensures)))
 
-pub returns-then-family-eq-STRING_FAMILY : goal.returns-then-family-eq-STRING_FAMILY
-unfolding action_of
-returns-then-family-eq-STRING_FAMILY c = rw (sym c.family-family.ensures, sym c.family.ensures, eq-eqb _ _ c.if-family.false, eq-eqb _ _ c.if-family-eq-STRING_FAMILY.true) (refl, omega arith)
+pub returns-in-Str : goal.returns-in-Str
+unfolding in_family
+returns-in-Str c = rw c.in-Str.is at (one_family _ _ _ _ c.family-family.ensures c.family.ensures (same_true the_type (search rules) _ _ (not-false _ (sym c.if-ne.ensures))))
 
-pub returns-then-family-eq-ADDR_FAMILY : goal.returns-then-family-eq-ADDR_FAMILY
-unfolding action_of
-returns-then-family-eq-ADDR_FAMILY c = rw (sym c.family-family.ensures, sym c.family.ensures, eq-eqb _ _ c.if-family.false, ne_eqb _ _ c.if-family-eq-STRING_FAMILY.false, eq-eqb _ _ c.if-family-eq-ADDR_FAMILY.true) (refl, omega arith)
+pub returns-in-Addr : goal.returns-in-Addr
+unfolding in_family
+returns-in-Addr c = rw c.in-Addr.is at (one_family _ _ _ _ c.family-family.ensures c.family.ensures (same_true the_type (search rules) _ _ (not-false _ (sym c.if-ne.ensures))))
 
 pub returns-then-c-d : goal.returns-then-c-d
-unfolding action_of
-returns-then-c-d c = rw (sym c.family-family.ensures, sym c.family.ensures, eq-eqb _ _ c.if-family.false, ne_eqb _ _ c.if-family-eq-STRING_FAMILY.false, ne_eqb _ _ c.if-family-eq-ADDR_FAMILY.false, eq-eqb _ _ c.if-c-d.true) (refl, omega arith)
+returns-then-c-d c = sym (numbers_same _ _ _ c.in-Reg.is c.if-c-d.true) ∙ one_family _ _ _ _ c.family-family.ensures c.family.ensures (same_true the_type (search rules) _ _ (not-false _ (sym c.if-ne.ensures)))
 
-pub returns-then-family-eq-REG_FAMILY : goal.returns-then-family-eq-REG_FAMILY
-unfolding action_of
-returns-then-family-eq-REG_FAMILY c = rw (sym c.family-family.ensures, sym c.family.ensures, eq-eqb _ _ c.if-family.false, ne_eqb _ _ c.if-family-eq-STRING_FAMILY.false, ne_eqb _ _ c.if-family-eq-ADDR_FAMILY.false, ne_eqb _ _ c.if-c-d.false, c.if-family-eq-REG_FAMILY.true) (refl, omega arith)
+pub returns-else-c-d : goal.returns-else-c-d
+returns-else-c-d c = sym (numbers_differ _ _ _ c.in-Reg.is c.if-c-d.false) ∙ one_family _ _ _ _ c.family-family.ensures c.family.ensures (same_true the_type (search rules) _ _ (not-false _ (sym c.if-ne.ensures)))
 
-pub returns-then-family-eq-UINT_FAMILY : goal.returns-then-family-eq-UINT_FAMILY
-unfolding action_of
-returns-then-family-eq-UINT_FAMILY c = rw (sym c.family-family.ensures, sym c.family.ensures, eq-eqb _ _ c.if-family.false, ne_eqb _ _ c.if-family-eq-STRING_FAMILY.false, ne_eqb _ _ c.if-family-eq-ADDR_FAMILY.false, ne_eqb _ _ c.if-c-d.false, c.if-family-eq-UINT_FAMILY.true) (refl, omega arith)
-
-pub returns-else-family-eq-UINT_FAMILY : goal.returns-else-family-eq-UINT_FAMILY
-unfolding action_of
-returns-else-family-eq-UINT_FAMILY c = rw (sym c.family-family.ensures, sym c.family.ensures, eq-eqb _ _ c.if-family.false, ne_eqb _ _ c.if-family-eq-STRING_FAMILY.false, ne_eqb _ _ c.if-family-eq-ADDR_FAMILY.false, ne_eqb _ _ c.if-c-d.false, outside _ c.if-family-eq-REG_FAMILY.false c.if-family-eq-UINT_FAMILY.false) (refl, omega arith)
+pub returns-in-NoOperand : goal.returns-in-NoOperand
+returns-in-NoOperand c = sym (keeps_others _ _ _ c.in-NoOperand.is) ∙ one_family _ _ _ _ c.family-family.ensures c.family.ensures (same_true the_type (search rules) _ _ (not-false _ (sym c.if-ne.ensures)))

@@ -5,14 +5,14 @@ use Rattle.carry.proofs.PlanLaws.{none_made, one_made, all_made}
 use Rattle.carry.proofs.plans.plan_row.Goals as goal
 
 pub loop-j-init : goal.loop-j-init
-loop-j-init c = (search rules, none_made _ _ _ (search rules))
+loop-j-init c = none_made _ _ _ (search rules)
 
 pub loop-j-preserved : goal.loop-j-preserved
-loop-j-preserved c = (search rules, one_made _ _ _ _ c.loop-j.invariant.1 _ c.loop-j-test.true c.plan_of-plan.ensures)
+loop-j-preserved c = one_made _ _ _ _ c.loop-j.invariant _ c.loop-j-test.true c.plan_of.ensures
 
 pub returns : goal.returns
 returns c =
     let a = c.args in
     let h : length a.row ≡ 8 = search rules in
     let h' : length a.new ≡ 8 = search rules in
-    all_made _ _ _ _ c.loop-j.invariant.1 c.loop-j-test.false h h'
+    all_made _ _ _ _ c.loop-j.invariant c.loop-j-test.false h h'

@@ -1,11 +1,10 @@
-// The index is one lent slice: a head for each bucket, and behind them a next for each opcode. It answers what `find_name` of
-// the sheet answers.
-ghost use Rattle.std.specs.Prelude.{◌≡◌, ◌+◌, ◌≤◌, ◌<◌, length};
+// An index of all names of a sheet, in one lent slice. A search in it answers what `find_name` of the sheet answers.
+ghost use Rattle.std.specs.Prelude.{◌≡◌, ◌+◌, ◌≤◌, length};
 ghost use Rattle.slices.specs.Answers.{found_of};
-ghost use Rattle.hash_index.specs.Hash.{bucket_of};
-ghost use Rattle.spec_sheet.specs.Line.{name_in};
 ghost use Rattle.spec_sheet.specs.Sheet.{find_name};
-ghost use Rattle.sheet.specs.Keys.{name_buckets, opcode_count, NamesIndexed};
+ghost use Rattle.sheet.specs.Keys.{name_buckets, opcode_count, name_of, NamesIndexed};
+
+use hash_index::keys::{Keys, find_key, index_keys};
 
 const NAME_BUCKETS: usize = 256;
 
@@ -14,31 +13,38 @@ const OPCODE_COUNT: usize = 256;
 // How long the index is.
 pub const NAME_INDEX: usize = NAME_BUCKETS + OPCODE_COUNT;
 
-// The bucket of the name in a row.
-fn row_bucket(sheet: &[u8], row: [usize; 4]) -> usize
-    ensures { (result ≡ bucket_of name_buckets (name_in sheet.now row)) × (result < name_buckets) }
-{
-    let start = row[crate::rows::NAME_START];
-    let size = row[crate::rows::NAME_SIZE];
-    let name = slices::part::part_of(sheet, start, size);
-    hash_index::hash::bucket_of(name, NAME_BUCKETS)
+// The names of all opcodes, of which some are gaps.
+#[derive(Clone, Copy)]
+struct OpcodeNames<'a> {
+    text: &'a [u8],
+    rows: &'a [[usize; 4]],
 }
 
-// Puts the names of all opcodes into chains, from the last opcode down, so that the first of equal names is found. Gaps are passed over.
-pub fn index_names(sheet: &[u8], ops: &[[usize; 4]; 256], index: &mut [u32])
-    requires { name_buckets + opcode_count ≤ length index.old }
-    ensures { NamesIndexed sheet.now ops.now index.new }
-{
-    hash_index::chain::empty_heads(index, NAME_BUCKETS, OPCODE_COUNT);
-    let mut left = OPCODE_COUNT;
-    while 0 < left {
-        left -= 1;
-        let row = ops[left];
-        if 0 < row[crate::rows::NAME_SIZE] {
-            let h = row_bucket(sheet, row);
-            hash_index::chain::put_in_front(index, NAME_BUCKETS, h, left);
-        }
+impl<'a> Keys for OpcodeNames<'a> {
+    ghost amount = { λ o. length o.rows.now };
+
+    ghost key_at = { λ o. name_of o.text.now o.rows.now };
+
+    fn count(&self) -> usize {
+        self.rows.len()
     }
+
+    fn key(&self, i: usize) -> Option<&[u8]> {
+        let row = self.rows[i];
+        let size = row[crate::rows::NAME_SIZE];
+        if size == 0 {
+            return None;
+        }
+        Some(slices::part::part_of(self.text, row[crate::rows::NAME_START], size))
+    }
+}
+
+// Indexes the names of all opcodes.
+pub fn index_names(text: &[u8], ops: &[[usize; 4]; 256], index: &mut [u32])
+    requires { name_buckets + opcode_count ≤ length index.old }
+    ensures { NamesIndexed text.now ops.now index.new }
+{
+    index_keys(&OpcodeNames { text, rows: ops }, NAME_BUCKETS, index)
 }
 
 // A sheet's text, its rows by opcode, and an index of all names.
@@ -56,16 +62,10 @@ impl<'a> Names<'a> {
         ensures { result ≡ found_of (find_name self.entry.text.now name.now 0 self.entry.ops.now) }
     {
         let ops = self.ops;
-        let rows: &[[usize; 4]] = ops;
-        let h = hash_index::hash::bucket_of(name, NAME_BUCKETS);
-        let mut k = hash_index::chain::index_at(self.index, h);
-        while k < rows.len() {
-            let row = rows[k];
-            if crate::rows::has_name(self.text, name, row) {
-                return Some(k);
-            }
-            k = hash_index::chain::index_at(self.index, NAME_BUCKETS + k);
-        }
-        None
+        let names = OpcodeNames {
+            text: self.text,
+            rows: ops,
+        };
+        find_key(&names, NAME_BUCKETS, self.index, name)
     }
 }

@@ -6,7 +6,6 @@ use Prim.Native.Nat.{ℕ, suc, ◌+◌, ◌*◌, ◌/◌, ◌%◌, ◌^◌, ◌�
 use native.Mathlib.Omega.{arith}
 use lib.ListN.{length, drop, get_or, take-append-drop}
 use lib.Seq.{drop-drop, drop-cons}
-use borrow.Author.Tests.{ne_eqb}
 use Rattle.lists.specs.Scan.{Bytes, all, same, run, part}
 use Rattle.lists.specs.Text.{text}
 use Rattle.lists.proofs.Parts.{part_length}

@@ -1,5 +1,5 @@
-use mathlib.Core.Path.{sym, ◌∙◌, ap, refl}
-use borrow.Author.Tests.{eq-eqb, ne_eqb}
+use mathlib.Core.Path.{sym, ap, refl}
+use borrow.Author.Tests.{ne_eqb}
 use Rattle.std.specs.Prelude.{Some}
 use Rattle.sheet.specs.Keys.{name_in_row}
 use Rattle.sheet.proofs.name_index.OpcodeNamesKeys.key.Goals as goal

@@ -1,5 +1,6 @@
 pub mod ByteSums
 pub mod WordLaws
+pub mod LowBytes
 pub mod WidthLaws
 pub mod AnswerLaws
 pub mod RoomLaws
@@ -11,4 +12,5 @@ pub mod HexTurns
 pub mod WordDigits
 pub mod NanLaws
 pub mod PlaceLaws
+pub mod WholeSteps
 pub mod ReadLaws

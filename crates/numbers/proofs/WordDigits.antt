@@ -1,6 +1,7 @@
 -- Digits as the bytes of a word. Assumes nothing.
 use Rattle.std.proofs.Common.{◌≡◌, ℕ, zero, suc, ◌+◌, ◌-◌, ◌*◌, ◌/◌, ◌%◌, ◌^◌, ◌<◌, ◌≤◌, Bool, true, false, ltb, List, [], ◌∷◌, ◌++◌, length, sym, refl, ap, ◌∙◌, arith, le-ltb, lt-ltb}
 use lib.Bits.{bit_and, and_block, and_high}
+use Rattle.std.specs.Int.{from_bool}
 use Rattle.lists.specs.Choice.{pick, both}
 use Rattle.lists.specs.Scan.{Bytes}
 use Rattle.lists.proofs.Tests.{by_leb}
@@ -12,6 +13,11 @@ use Rattle.numbers.specs.Digits.{two_digits, four_digits, four_hex_digits}
 use Rattle.numbers.proofs.ByteSums.{le_append, le_shift, bytes_bits}
 use Rattle.numbers.proofs.DecimalTurns.{decimal_one, decimal_two, decimal_three, decimal_four}
 use Rattle.numbers.proofs.HexTurns.{hex_four}
+
+-- 1 for a test that holds
+pub bool_pick : (b : Bool) → from_bool b ≡ pick b 1 0
+bool_pick true = refl
+bool_pick false = refl
 
 -- bytes that are given one by one
 abbrev EachByte : List ℕ → Type 0

@@ -37,12 +37,8 @@ fn read_bytes(s: &[u8], at: usize, n: usize) -> u64
     ensures { result ≡ le (part s.now at n) }
 {
     let mut v: u64 = 0;
-    let mut k = n;
-    while 0 < k {
-        k -= 1;
-        // The byte is read first, since only from there on is it known to be one.
-        let b = s[at + k] as u64;
-        v = v * 256 + b;
+    for k in (0..n).rev() {
+        v = v * 256 + s[at + k] as u64;
     }
     v
 }
@@ -63,11 +59,9 @@ pub fn put_le(out: &mut [u8], at: usize, w: usize, v: u64) -> usize
     ensures { Put out.old at (le_bytes w v) out.new result }
 {
     let mut k = at;
-    let mut left = w;
     let mut rest = v;
-    while 0 < left {
+    for _ in 0..w {
         k = put_byte(out, k, (rest % 256) as u8);
-        left -= 1;
         rest /= 256;
     }
     k
@@ -78,11 +72,5 @@ pub fn put_eight(out: &mut [u8], at: usize, v: u64)
     requires { at + 8 ≤ length out.old }
     ensures { out.new ≡ put out.old at (le_bytes 8 v) }
 {
-    let mut rest = v;
-    let mut i: usize = 0;
-    while i < 8 {
-        out[at + i] = (rest % 256) as u8;
-        rest /= 256;
-        i += 1;
-    }
+    out[at..at + 8].copy_from_slice(&v.to_le_bytes());
 }

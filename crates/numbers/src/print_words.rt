@@ -10,18 +10,12 @@ ghost use Rattle.numbers.specs.Digits.{two_digits, four_digits, eight_digits, fo
 
 use crate::words::{has_room, put_word, set_word};
 
-fn one_if(more: bool) -> usize
-    ensures { (result ≡ pick more 1 0) × (result ≤ 1) }
-{
-    if more { 1 } else { 0 }
-}
-
 // How many digits a number below 10000 has.
 fn digit_count(n: u64) -> usize
     requires { n < 10000 }
     ensures { result ≡ length (decimal n) }
 {
-    1 + one_if(9 < n) + one_if(99 < n) + one_if(999 < n)
+    1 + usize::from(9 < n) + usize::from(99 < n) + usize::from(999 < n)
 }
 
 // The tens of a number below 100, and the hundreds of one below 10000: a product and a shift, where a division of a u64 takes twice the
@@ -119,7 +113,7 @@ pub fn put_decimal(out: &mut [u8], at: usize, n: u64) -> usize
 fn is_negative(minus: bool, n: u64) -> bool
     ensures { result ≡ both minus (nat_lt 2147483647 n) }
 {
-    if minus { 0x7fff_ffff < n } else { false }
+    minus && 0x7fff_ffff < n
 }
 
 // A number of 32 bits without its sign.
@@ -136,7 +130,7 @@ pub fn put_signed(out: &mut [u8], at: usize, minus: bool, n: u64) -> usize
     ensures { ByWords out.old at (pick minus (signed_decimal (signed 32 n)) (decimal n)) out.new result }
 {
     let negative = is_negative(minus, n);
-    let k = put_word(out, at, one_if(negative), 45);
+    let k = put_word(out, at, usize::from(negative), 45);
     put_decimal(out, k, magnitude(negative, n))
 }
 

@@ -1,34 +1,12 @@
-// Signed numbers by their bits. `!` keeps each step in range, where `-x - 1` would not.
+// Signed numbers by their bits. A number's own bits, and the number of 32 bits, are std's `cast_unsigned` and `cast_signed`.
 ghost use Rattle.std.specs.Prelude.{◌≡◌};
-ghost use Rattle.spec_numbers.specs.TwosComplement.{signed, unsigned, extend8, wrap_sub, wrap_add};
+ghost use Rattle.spec_numbers.specs.TwosComplement.{signed, extend8, wrap_sub, wrap_add};
 
-// Straight arithmetic (document 02 (c)): the controller build wants no branch here.
+// Straight arithmetic (document 02 (c)): the controller build wants no branch here, and `cast_signed` has one.
 pub fn as_i8(b: u8) -> i8
     ensures { result ≡ signed 8 b }
 {
     (((b as u16 + 128) % 256) as i16 - 128) as i8
-}
-
-pub fn bits_i8(x: i8) -> u8
-    ensures { result ≡ unsigned 8 x }
-{
-    if 0 <= x { x as u8 } else { !((!x) as u8) }
-}
-
-pub fn as_i32(b: u32) -> i32
-    ensures { result ≡ signed 32 b }
-{
-    if b < 0x8000_0000 {
-        b as i32
-    } else {
-        !((!b) as i32)
-    }
-}
-
-pub fn bits_i32(x: i32) -> u32
-    ensures { result ≡ unsigned 32 x }
-{
-    if 0 <= x { x as u32 } else { !((!x) as u32) }
 }
 
 // The 32 bits of a signed byte: `i8 as i32`. Without a branch as well: 0xffff_ff80 is -128 in 32 bits.
@@ -42,12 +20,12 @@ pub fn sign_extend8(b: u8) -> u32
 pub fn wrapping_distance(target: u32, offset: u32) -> u32
     ensures { result ≡ wrap_sub target offset }
 {
-    std::num::wrapping_sub_u32(target, offset)
+    target.wrapping_sub(offset)
 }
 
 // And the target from the distance.
 pub fn wrapping_target(offset: u32, distance: u32) -> u32
     ensures { result ≡ wrap_add offset distance }
 {
-    std::num::wrapping_add_u32(offset, distance)
+    offset.wrapping_add(distance)
 }

@@ -9,30 +9,16 @@ pub fn whole_of(bits: u64) -> Option<u64>
 {
     let e = bits / 0x10_0000_0000_0000 % 0x800;
     let m = bits % 0x10_0000_0000_0000;
-    if e == 0 {
-        if m == 0 {
-            return Some(0);
+    match e {
+        0 => (m == 0).then_some(0),
+        1023..=1075 => {
+            let significand = 0x10_0000_0000_0000 + m;
+            let k = (1075 - e) as u32;
+            (k <= significand.trailing_zeros()).then_some(significand >> k)
         }
-        return None;
+        1076 => (m == 0).then_some(0x20_0000_0000_0000),
+        _ => None,
     }
-    if e == 1076 {
-        if m == 0 {
-            return Some(0x20_0000_0000_0000);
-        }
-        return None;
-    }
-    if e < 1023 {
-        return None;
-    }
-    if 1075 < e {
-        return None;
-    }
-    let significand = 0x10_0000_0000_0000 + m;
-    let k = (1075 - e) as u32;
-    if u64::trailing_zeros(significand) < k {
-        return None;
-    }
-    Some(significand >> k)
 }
 
 // The bits of the double n.
@@ -46,7 +32,7 @@ pub fn bits_of_whole(n: u64) -> u64
     if n == 0x20_0000_0000_0000 {
         return 1076 * 0x10_0000_0000_0000;
     }
-    let top = 63 - u64::leading_zeros(n);
+    let top = 63 - n.leading_zeros();
     let significand = n << (52 - top);
     ((top + 1023) as u64) * 0x10_0000_0000_0000 + (significand - 0x10_0000_0000_0000)
 }

@@ -10,13 +10,7 @@ use crate::little_endian::{eight_bytes, put_eight, put_le};
 pub(crate) fn has_room(len: usize, at: usize, n: usize) -> bool
     ensures { result ≡ nat_le (at + n + 8) len }
 {
-    if len < 8 {
-        return false;
-    }
-    if len - 8 < n {
-        return false;
-    }
-    at <= len - 8 - n
+    8 <= len && n <= len - 8 && at <= len - 8 - n
 }
 
 // Writes the first w bytes of v by one store of eight: what stands behind them is written over by what follows, and no branch depends
@@ -44,7 +38,7 @@ pub fn put_word(out: &mut [u8], at: usize, w: usize, v: u64) -> usize
 fn word_size(n: usize) -> usize
     ensures { result ≡ min n 8 }
 {
-    if n < 8 { n } else { 8 }
+    n.min(8)
 }
 
 // Writes the next word of the n bytes of s from `at` on, of which k are written.

@@ -99,7 +99,7 @@ impl Number for i32 {
     const WIDTH: usize = 4;
 
     fn of_bits(bits: u64) -> i32 {
-        numbers::signed::as_i32(bits as u32)
+        (bits as u32).cast_signed()
     }
 
     ghost few = { Prim.search rules };

@@ -21,7 +21,7 @@ pub struct Operand {
     pub next: usize,
 }
 
-// The value of a kind with these bits.
+// The value of a kind with these bits. A kind is a number here, and where it is answered, since a record holds it as one (document 01).
 pub fn value_of(kind: u8, bits: u64) -> OperandValue
     ensures { result ≡ value_of kind bits }
 {
@@ -30,7 +30,7 @@ pub fn value_of(kind: u8, bits: u64) -> OperandValue
         1 => OperandValue::U16((bits % 65536) as u16),
         2 => OperandValue::U32((bits % 0x1_0000_0000) as u32),
         3 => OperandValue::I8(numbers::signed::as_i8((bits % 256) as u8)),
-        4 => OperandValue::I32(numbers::signed::as_i32((bits % 0x1_0000_0000) as u32)),
+        4 => OperandValue::I32(((bits % 0x1_0000_0000) as u32).cast_signed()),
         _ => OperandValue::F64(numbers::value::double_of(bits)),
     }
 }
@@ -57,8 +57,8 @@ pub fn bits_of(v: OperandValue, beside: u64) -> u64
         OperandValue::U8(x) => x as u64,
         OperandValue::U16(x) => x as u64,
         OperandValue::U32(x) => x as u64,
-        OperandValue::I8(x) => numbers::signed::bits_i8(x) as u64,
-        OperandValue::I32(x) => numbers::signed::bits_i32(x) as u64,
+        OperandValue::I8(x) => x.cast_unsigned() as u64,
+        OperandValue::I32(x) => x.cast_unsigned() as u64,
         OperandValue::F64(_) => beside,
     }
 }

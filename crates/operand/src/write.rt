@@ -9,7 +9,7 @@ ghost use Rattle.operand.specs.Value.{kind_of_value, bits_of_value};
 ghost use Rattle.operand.specs.Write.{write_operand, fitted_of};
 
 use crate::value::{OperandValue, bits_of, value_of};
-use numbers::signed::{bits_i8, bits_i32, sign_extend8};
+use numbers::signed::sign_extend8;
 use sheet::family::Family;
 
 // Whether a number has at most w bytes.
@@ -38,9 +38,9 @@ fn encode_addr8(v: OperandValue) -> Option<u64>
 {
     match v {
         OperandValue::U8(x) => Some(x as u64),
-        OperandValue::I8(x) => Some(bits_i8(x) as u64),
+        OperandValue::I8(x) => Some(x.cast_unsigned() as u64),
         OperandValue::I32(x) => {
-            let bits = bits_i32(x) as u64;
+            let bits = x.cast_unsigned() as u64;
             (bits < 128 || 0xffff_ff80 <= bits).then_some(bits % 256)
         }
         _ => None,
@@ -52,7 +52,7 @@ fn encode_signed32(v: OperandValue) -> Option<u64>
     ensures { (beside : ℕ) → result ≡ fitted_of (encode_signed32 (kind_of_value v) (bits_of_value v beside)) }
 {
     match v {
-        OperandValue::I8(x) => Some(sign_extend8(bits_i8(x)) as u64),
+        OperandValue::I8(x) => Some(sign_extend8(x.cast_unsigned()) as u64),
         OperandValue::F64(_) => None,
         _ => Some(bits_of(v, 0)),
     }

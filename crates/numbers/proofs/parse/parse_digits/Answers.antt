@@ -7,8 +7,8 @@ pub returns-then-base-d : goal.returns-then-base-d
 returns-then-base-d c =
     let a = c.args in
     elim c.then-base-d.branch [
-      then-base-d-via-then-base-d w ↦ not_a_digit a.base a.most _ _ _ c.loop-b.invariant _ c.requires c.loop-b-test.true c.digit_value-d.ensures w.if-base-d.true
-    | then-base-d-via-else-base-d+then-not-has_room w ↦ too_large a.base a.most _ _ _ c.loop-b.invariant _ c.requires c.loop-b-test.true c.digit_value-d.ensures w.if-base-d.false (sym w.if-not-has_room.ensures)
+      | then-base-d-via-then-base-d w ↦ not_a_digit a.base a.most _ _ _ c.loop-b.invariant _ c.requires c.loop-b-test.true c.digit_value-d.ensures w.if-base-d.true
+      | then-base-d-via-else-base-d+then-not-has_room w ↦ too_large a.base a.most _ _ _ c.loop-b.invariant _ c.requires c.loop-b-test.true c.digit_value-d.ensures w.if-base-d.false (sym w.if-not-has_room.ensures)
     ]
 
 pub loop-b-preserved : goal.loop-b-preserved

@@ -1,9 +1,8 @@
 use Rattle.numbers.proofs.ReadLaws.{double_infinity, double_minus_infinity, double_hex, double_whole}
-use Rattle.lists.specs.Scan.{same}
 use Rattle.lists.specs.Text.{text}
 use Rattle.spec_numbers.specs.Double.{infinity_text, hex_mark}
 use Rattle.numbers.specs.Answers.{number_of}
-use Rattle.std.proofs.Common.{◌≡◌, false, ◌∷◌, sym, ap, ◌∙◌}
+use Rattle.std.proofs.Common.{sym, ap, ◌∙◌}
 use Rattle.numbers.proofs.read_double.read_double.Goals as goal
 
 pub returns-then-same_bytes : goal.returns-then-same_bytes
@@ -20,11 +19,13 @@ returns-then-same_bytes-2 c =
 pub returns-then-opens_at : goal.returns-then-opens_at
 unfolding hex_mark text infinity_text
 returns-then-opens_at c =
-    let w = (let no_word : let s = c.args.s.now in (same s infinity_text ≡ false) × (same s (45 ∷ infinity_text) ≡ false) = (sym c.same_bytes.ensures ∙ c.if-same_bytes.false, sym c.same_bytes-2.ensures ∙ c.if-same_bytes-2.false) in no_word) in
-    c.read_hex16.ensures ∙ sym (ap number_of (double_hex _ w.0 w.1 (sym c.opens_at.ensures ∙ c.if-opens_at.true)))
+    let w = c.same_bytes in
+    let m = c.same_bytes-2 in
+    c.read_hex16.ensures ∙ sym (ap number_of (double_hex _ (sym w.ensures ∙ c.if-same_bytes.false) (sym m.ensures ∙ c.if-same_bytes-2.false) (sym c.opens_at.ensures ∙ c.if-opens_at.true)))
 
 pub returns : goal.returns
 unfolding hex_mark text infinity_text
 returns c =
-    let w = (let no_word : let s = c.args.s.now in (same s infinity_text ≡ false) × (same s (45 ∷ infinity_text) ≡ false) = (sym c.same_bytes.ensures ∙ c.if-same_bytes.false, sym c.same_bytes-2.ensures ∙ c.if-same_bytes-2.false) in no_word) in
-    c.read_whole.ensures ∙ sym (ap number_of (double_whole _ w.0 w.1 (sym c.opens_at.ensures ∙ c.if-opens_at.false)))
+    let w = c.same_bytes in
+    let m = c.same_bytes-2 in
+    c.read_whole.ensures ∙ sym (ap number_of (double_whole _ (sym w.ensures ∙ c.if-same_bytes.false) (sym m.ensures ∙ c.if-same_bytes-2.false) (sym c.opens_at.ensures ∙ c.if-opens_at.false)))

@@ -1,38 +1,24 @@
-use Rattle.spec_numbers.proofs.ZeroLaws.{low_zero, low_not_zero}
-use Rattle.spec_numbers.specs.Double.{whole_of, whole_at, scaled}
-use Rattle.std.proofs.Common.{arith, le-ltb, lt-ltb, eq-eqb, ne_eqb}
+use Rattle.std.proofs.Common.{◌∙◌, arith}
+use Rattle.spec_numbers.specs.Double.{whole_of}
+use Rattle.numbers.proofs.WholeSteps.{whole_zero, whole_most, whole_within, not_whole}
 use Rattle.numbers.proofs.whole.whole_of.Goals as goal
 
-pub returns-then-m-eq0 : goal.returns-then-m-eq0
-unfolding whole_of whole_at scaled
-returns-then-m-eq0 c = rw (eq-eqb _ _ c.if-e-eq0.true, eq-eqb _ _ c.if-m-eq0.true)
+pub returns-in-0 : goal.returns-in-0
+unfolding whole_of
+returns-in-0 c = c.then_some.ensures ∙ whole_zero _ _ c.in-0.is
 
-pub returns-then-e-eq0 : goal.returns-then-e-eq0
-unfolding whole_of whole_at scaled
-returns-then-e-eq0 c = rw (eq-eqb _ _ c.if-e-eq0.true, ne_eqb _ _ c.if-m-eq0.false)
+pub returns-in-1076 : goal.returns-in-1076
+unfolding whole_of
+returns-in-1076 c = c.then_some-in-1076.ensures ∙ whole_most _ _ c.in-1076.is
 
-pub returns-then-m-eq0-2 : goal.returns-then-m-eq0-2
-unfolding whole_of whole_at scaled
-returns-then-m-eq0-2 c = rw (ne_eqb _ _ c.if-e-eq0.false, eq-eqb _ _ c.if-e-eq1076.true, eq-eqb _ _ c.if-m-eq0-2.true)
+pub returns-in-1023-to-1075 : goal.returns-in-1023-to-1075
+unfolding whole_of
+returns-in-1023-to-1075 c = c.then_some-in-1023-to-1075.ensures ∙ whole_within _ _ (omega arith) (omega arith) (omega arith)
 
-pub returns-then-e-eq1076 : goal.returns-then-e-eq1076
-unfolding whole_of whole_at scaled
-returns-then-e-eq1076 c = rw (ne_eqb _ _ c.if-e-eq0.false, eq-eqb _ _ c.if-e-eq1076.true, ne_eqb _ _ c.if-m-eq0-2.false)
+pub returns-in_default : goal.returns-in_default
+unfolding whole_of
+returns-in_default c = not_whole _ _ (λ z. omega (arith, z)) (λ z. omega (arith, z)) (λ a b. omega (arith, a, b))
 
-pub returns-then-e-lt1023 : goal.returns-then-e-lt1023
-unfolding whole_of whole_at scaled
-returns-then-e-lt1023 c = rw (ne_eqb _ _ c.if-e-eq0.false, ne_eqb _ _ c.if-e-eq1076.false, lt-ltb _ _ c.if-e-lt1023.true)
-
-pub returns-then-e-gt1075 : goal.returns-then-e-gt1075
-unfolding whole_of whole_at scaled
-returns-then-e-gt1075 c = rw (ne_eqb _ _ c.if-e-eq0.false, ne_eqb _ _ c.if-e-eq1076.false, le-ltb _ _ c.if-e-lt1023.false, lt-ltb _ _ c.if-e-gt1075.true)
-
-pub returns-then-significand-k : goal.returns-then-significand-k
-unfolding whole_of whole_at scaled
-returns-then-significand-k c =
-    rw (ne_eqb _ _ c.if-e-eq0.false, ne_eqb _ _ c.if-e-eq1076.false, le-ltb _ _ c.if-e-lt1023.false, le-ltb _ _ c.if-e-gt1075.false, ne_eqb _ _ (low_not_zero 64 _ _ (omega arith) c.if-significand-k.true))
-
-pub returns : goal.returns
-unfolding whole_of whole_at scaled
-returns c =
-    rw (ne_eqb _ _ c.if-e-eq0.false, ne_eqb _ _ c.if-e-eq1076.false, le-ltb _ _ c.if-e-lt1023.false, le-ltb _ _ c.if-e-gt1075.false, eq-eqb _ _ (low_zero 64 _ _ c.if-significand-k.false))
+pub returns-in_default-2 : goal.returns-in_default-2
+unfolding whole_of
+returns-in_default-2 c = not_whole _ _ (λ z. omega (arith, z)) (λ z. omega (arith, z)) (λ a b. omega (arith, a, b))

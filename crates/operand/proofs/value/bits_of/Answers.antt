@@ -1,6 +1,7 @@
 use mir.Syntax.{w8, w32}
 use mir.Val.{to_z, of_z}
-use mathlib.Core.Path.{◌≡◌}
+use mathlib.Core.Path.{◌≡◌, ◌∙◌}
+use Rattle.numbers.proofs.WidthLaws.{unsigned_bits}
 use Rattle.operand.specs.Value.{bits_of_value}
 use borrow.Author.Rules.{rules}
 use Rattle.operand.proofs.value.bits_of.Goals as goal
@@ -22,14 +23,14 @@ unfolding bits_of_value
 returns-in-I8 c =
     let z = c.in-I8.x in
     let e : to_z w8 (of_z w8 z) ≡ z = search rules in
-    rw c.in-I8.is (rw e at c.bits_i8.ensures)
+    rw c.in-I8.is (rw e at c.cast_unsigned.ensures ∙ unsigned_bits w8 z)
 
 pub returns-in-I32 : goal.returns-in-I32
 unfolding bits_of_value
 returns-in-I32 c =
     let z = c.in-I32.x in
     let e : to_z w32 (of_z w32 z) ≡ z = search rules in
-    rw c.in-I32.is (rw e at c.bits_i32.ensures)
+    rw c.in-I32.is (rw e at c.cast_unsigned-in-I32.ensures ∙ unsigned_bits w32 z)
 
 pub returns-in-F64 : goal.returns-in-F64
 unfolding bits_of_value

@@ -15,7 +15,7 @@ use Rattle.hasm_read.proofs.LineLaws.{short_here, short_behind}
 use Rattle.assemble.specs.Going.{Going, LineAt, Turned}
 use Rattle.assemble.specs.Bodies.{BodyPut}
 use Rattle.assemble.specs.declared.operands.Place.{Place}
-use Rattle.assemble.specs.declared.instruction.Step.TheVariants.{On}
+use Rattle.std.proofs.Common.{Ok}
 use Rattle.assemble.proofs.BodyLoop.{body_start, body_end}
 
 -- the lines before line n were written, and those from `at` on are short
@@ -37,5 +37,5 @@ module _ (e : Context) (labels : List ℕ → Found) (s : List ℕ) where
       pub text_line : LineAt s at end place.offset
       text_line = record { inside = i; ends = q; short = short_here s at end i q b.short; small = omega (arith, b.low) }
 
-      pub text_turn : {out' : List ℕ} (next : Place) → Turned e labels s out₀ out' (end + 1) n place (On next) → Body e labels s out₀ out' (end + 1) (n + 1) next
+      pub text_turn : {out' : List ℕ} (next : Place) → Turned e labels s out₀ out' (end + 1) n place (Ok next) → Body e labels s out₀ out' (end + 1) (n + 1) next
       text_turn next (g, l) = record { going = g; short = short_behind s at end i q b.short; few = omega (arith, b.few, q); low = omega (arith, b.low, q, l) }

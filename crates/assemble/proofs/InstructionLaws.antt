@@ -1,5 +1,6 @@
 -- One instruction of a text, written. Assumes nothing.
-use mathlib.Core.Path.{◌≡◌, refl, sym, ◌∙◌}
+use mathlib.Core.Path.{◌≡◌, refl, ap, sym, ◌∙◌}
+use Rattle.std.proofs.Common.{Option}
 use mathlib.Core.List.{List, [], ◌∷◌}
 use Prim.Native.Nat.{ℕ, ◌+◌, ◌-◌, ◌<◌, ◌≤◌}
 use native.Mathlib.Omega.{arith}
@@ -11,8 +12,8 @@ use Rattle.lists.specs.Scan.{run}
 use Rattle.lists.specs.Write.{Put}
 use Rattle.lists.proofs.Writes.{◌then◌}
 use Rattle.lists.proofs.Parts.{tail_part}
+use Rattle.std.specs.Option.{unwrap_or}
 use Rattle.slices.specs.Answers.{found_of}
-use Rattle.slices.specs.declared.search.Found.TheVariants.{At, Missing}
 use Rattle.spec_sheet.specs.Sheet.{find_name}
 use Rattle.spec_sheet.specs.Row.{length_of}
 use Rattle.spec_inputs.specs.Context.{Context}
@@ -22,28 +23,31 @@ use Rattle.spec_hasm.specs.Line.{opcode_named}
 use Rattle.spec_hasm.specs.Assemble.{row_of, found_in, operands_from}
 use Rattle.spec_hasm.specs.Assemble.Operands.{refused_operand}
 use Rattle.answers.specs.declared.refusal.OperandFault.{OperandFault}
-use Rattle.hasm_labels.proofs.NameLaws.{found_inside, was_found, was_missing}
+use Rattle.hasm_labels.proofs.NameLaws.{found_inside}
 use Rattle.assemble.specs.OperandPuts.{AllPut}
 use Rattle.assemble.specs.BodyPuts.{opcode_in, operands_of, WholePut}
 use Rattle.assemble.specs.declared.operands.Place.{Place}
 
 -- the opcode of what a search answered
-pub found_opcode : (k : ℕ) (x : Found) → At k ≡ found_of x → k ≡ found_in x
+found_or_none : (x : Found) → unwrap_or (found_of x) 0 ≡ found_in x
 unfolding found_in
-found_opcode k x e = sym (rw (was_found x k e) refl)
+found_or_none (found k) = refl
+found_or_none missing = refl
 
-pub missing_opcode : (x : Found) → Missing ≡ found_of x → 0 ≡ found_in x
-unfolding found_in
-missing_opcode x e = sym (rw (was_missing x e) refl)
+pub opcode_found : (x : Found) (o : Option ℕ) (k : ℕ) → o ≡ found_of x → k ≡ unwrap_or o 0 → k ≡ found_in x
+opcode_found x o k e f = f ∙ ap (λ (p : Option ℕ). unwrap_or p 0) e ∙ found_or_none x
 
 -- it is one of the rows
-pub opcode_below : (s name : List ℕ) (rows : List (List ℕ)) → length rows ≡ 256 → found_in (find_name s name 0 rows) < 256
+opcode_below : (s name : List ℕ) (rows : List (List ℕ)) → length rows ≡ 256 → found_in (find_name s name 0 rows) < 256
 unfolding found_in
 opcode_below s name rows h = go (find_name s name 0 rows) (found_inside s name 0 rows)
   where
     go : (x : Found) → ((o : ℕ) → x ≡ found o → o < 0 + length rows) → found_in x < 256
     go (found o) f = omega (arith, f o refl)
     go missing f = omega arith
+
+pub opcode_small : (s name : List ℕ) (rows : List (List ℕ)) (o : Option ℕ) (k : ℕ) → length rows ≡ 256 → o ≡ found_of (find_name s name 0 rows) → k ≡ unwrap_or o 0 → k < 256
+opcode_small s name rows o k h e f = omega (arith, opcode_found (find_name s name 0 rows) o k e f, opcode_below s name rows h)
 
 -- the instruction s, whose name ends at n and whose operands start at a
 module _ (e : Context) (labels : List ℕ → Found) (s : List ℕ) (place : Place) (n a : ℕ) (p : n ≡ 0 + run is_solid s) (q : a ≡ n + run is_white (drop n s)) where
@@ -53,11 +57,11 @@ module _ (e : Context) (labels : List ℕ → Found) (s : List ℕ) (place : Pla
       let z : run is_solid s ≡ n = omega (arith, p) in
       rw (z, drop-drop (run is_white (drop n s)) n s, sym q, tail_part s a) refl
 
-  opcode_is : found_in (opcode_named e (take (n - 0) s)) ≡ opcode_in e s
+  opcode_is : found_in (opcode_named e (take n s)) ≡ opcode_in e s
   unfolding instruction_name
-  opcode_is = let z : run is_solid s ≡ n - 0 = omega (arith, p) in rw z refl
+  opcode_is = let z : run is_solid s ≡ n = omega (arith, p) in rw z refl
 
-  module _ (op : ℕ) (i : op ≡ found_in (opcode_named e (take (n - 0) s))) where
+  module _ (op : ℕ) (i : op ≡ found_in (opcode_named e (take n s))) where
     its : op ≡ opcode_in e s
     its = i ∙ opcode_is
 

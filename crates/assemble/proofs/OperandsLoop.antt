@@ -24,8 +24,7 @@ use Rattle.spec_hasm.specs.Assemble.{prepend, on_value, operands_from}
 use Rattle.spec_hasm.specs.Assemble.Operands.{written, refused_operand}
 use Rattle.hasm_read.specs.Commas.{comma_at}
 use Rattle.hasm_tokens.specs.Values.{token_answer}
-use Rattle.hasm_tokens.specs.declared.number_token.Value.{Value}
-use Rattle.hasm_tokens.specs.declared.number_token.Value.TheVariants.{Bits, Refused}
+use Rattle.std.proofs.Common.{Result, Ok, Err}
 use Rattle.assemble.specs.OperandPuts.{AllPut}
 use Rattle.assemble.proofs.ValueLaws.{value_bits, value_refused}
 use Rattle.assemble.proofs.TokenPlaces.{token_here, tokens_behind}
@@ -106,13 +105,13 @@ module _ {e : Context} {labels : List ℕ → search.Found} {offset : ℕ} {s ro
         record { bytes = g.bytes; whole = g.rest ∙ ap (prepend g.bytes) d ∙ prepend_end g.bytes; put = g.so_far }
 
     -- the operand i, whose text ends at `end`
-    module _ (code end : ℕ) (t : List ℕ) (v : Value) (h : i < 8) (c : code ≡ get_or row i 0) (z : code ≡ 0 → ⊥)
+    module _ (code end : ℕ) (t : List ℕ) (v : Result ℕ OperandFault) (h : i < 8) (c : code ≡ get_or row i 0) (z : code ≡ 0 → ⊥)
         (w : end ≡ p + comma_at (drop p s)) (b : end ≤ length s) (f : t ≡ trim (part s p (end - p)))
         (q : v ≡ token_answer (token_value e.bytes e.ends labels offset code t)) where
       value_here : v ≡ token_answer (token_value e.bytes e.ends labels offset (get_or row i 0) (get_or (tokens (split_outside (drop p s))) 0 []))
       value_here = rw (token_here s p end (min (end + 1) (length s)) w b refl, sym f, sym c) q
 
-      pub turn : (bits next width : ℕ) {o₁ : List ℕ} {n₁ : ℕ} → v ≡ Bits bits → next ≡ min (end + 1) (length s) → width ≡ width_of code → Put out n (le_bytes width bits) o₁ n₁
+      pub turn : (bits next width : ℕ) {o₁ : List ℕ} {n₁ : ℕ} → v ≡ Ok bits → next ≡ min (end + 1) (length s) → width ≡ width_of code → Put out n (le_bytes width bits) o₁ n₁
           → Going e labels offset s row out₀ k o₁ n₁ next (i + 1)
       turn bits next width m j a u =
           let r : i < length row = omega (arith, g.eight) in
@@ -131,7 +130,7 @@ module _ {e : Context} {labels : List ℕ → search.Found} {offset : ℕ} {s ro
             rest = g.rest ∙ ap (prepend g.bytes) d ∙ prepend_two g.bytes (le_bytes (width_of code) bits) _;
           }
 
-      pub refuses : (f' : OperandFault) (operand : ℕ) → v ≡ Refused f' → operand ≡ i + 1 → all_in e labels offset s row ≡ refused_operand f' operand
+      pub refuses : (f' : OperandFault) (operand : ℕ) → v ≡ Err f' → operand ≡ i + 1 → all_in e labels offset s row ≡ refused_operand f' operand
       refuses f' operand m j =
           let r : i < length row = omega (arith, g.eight) in
           let ts = tokens (split_outside (drop p s)) in

@@ -1,11 +1,10 @@
 -- Assembling by the length of its text. Assumes nothing.
-use mathlib.Core.Path.{◌≡◌, refl}
+use mathlib.Core.Path.{◌≡◌, refl, ap}
 use mathlib.Core.List.{List}
 use Prim.Native.Nat.{ℕ, ◌<◌, ◌≤◌}
-use lib.ListN.{length}
+use lib.ListN.{length, replicate}
 use borrow.Author.Tests.{lt-ltb, le-ltb}
-use Rattle.answers.specs.Report.{Report, zeros}
-use Rattle.answers.specs.Refusals.{refusal_report}
+use Rattle.answers.specs.Report.{zeros}
 use Rattle.answers.specs.Outcome.{Outcome, Ended}
 use Rattle.answers.specs.Outcome.Outcome.{refused_with}
 use Rattle.answers.specs.declared.refusal.Refusal.{Refusal}
@@ -15,7 +14,11 @@ use Rattle.spec_inputs.specs.Context.{Context, context_from}
 use Rattle.spec_inputs.specs.Inputs.{under_inputs}
 use Rattle.spec_hasm.specs.Operation.{assemble}
 use Rattle.operation.specs.Read.{Given}
-use Rattle.operation.specs.declared.inputs.Inputs.TheVariants.{Ready, Refused}
+use Rattle.answers.specs.declared.failure.Failure.{Failure}
+use Rattle.answers.specs.declared.failure.Failure.TheVariants.{Refused}
+use Rattle.answers.specs.Answers.{answer_report}
+use Rattle.operation.specs.Ends.{left_by}
+use Rattle.std.proofs.Common.{Result, Ok, Err}
 use Rattle.operation.proofs.EndedLaws.{read_on, refused_on}
 use Rattle.assemble.specs.Passes.{text_outcome}
 
@@ -32,17 +35,23 @@ module _ (sheet bytes ends text : List ℕ) where
   unfolding assemble
   small h = rw (le-ltb 1048576 (length text) h)
 
-  module _ {before room after : List ℕ} where
+  module _ {before room : List ℕ} (now : List ℕ) (answer : Result ℕ Failure) where
+    -- what is left of an operation that refuses
+    refusal_end : (x : Refusal) → answer ≡ Err (Refused x) → length now ≡ length before → assemble sheet bytes ends text ≡ refused_with x
+        → Ended (assemble sheet bytes ends text) before room (left_by answer now) (answer_report answer)
+    refusal_end x a l e = rw a (refused_end _ x before room (zeros now) _ e refl (ap (λ (n : ℕ). replicate n 0) l))
+
     -- a text that is too large
-    pub large_text : 1048576 < length text → after ≡ zeros before → Ended (assemble sheet bytes ends text) before room after (refusal_report TooLarge)
-    large_text h z = refused_end _ TooLarge before room after _ (large h) refl z
+    pub large_text : 1048576 < length text → answer ≡ Err (Refused TooLarge) → length now ≡ length before → Ended (assemble sheet bytes ends text) before room (left_by answer now) (answer_report answer)
+    large_text h a l = refusal_end TooLarge a l (large h)
 
     module _ {types₀ ops₀ types ops : List (List ℕ)} (h : length text ≤ 1048576) where
       -- one under inputs that were read
-      pub read_text : {last : ℕ} {r : Report} → Given sheet bytes ends types₀ ops₀ types ops (Ready last) → Ended (text_outcome (context_from sheet types ops bytes ends) text) before room after r
-          → Ended (assemble sheet bytes ends text) before room after r
+      pub read_text : {last : ℕ} → Given sheet bytes ends types₀ ops₀ types ops (Ok last) → Ended (text_outcome (context_from sheet types ops bytes ends) text) before room (left_by answer now) (answer_report answer)
+          → Ended (assemble sheet bytes ends text) before room (left_by answer now) (answer_report answer)
       read_text g e = rw (small h) (read_on (text_under text) g e)
 
       -- and under inputs that are refused
-      pub refused_inputs : {x : Refusal} → Given sheet bytes ends types₀ ops₀ types ops (Refused x) → after ≡ zeros before → Ended (assemble sheet bytes ends text) before room after (refusal_report x)
-      refused_inputs g z = rw (small h) (refused_on (text_under text) g refl z)
+      pub refused_inputs : {x : Refusal} → Given sheet bytes ends types₀ ops₀ types ops (Err x) → answer ≡ Err (Refused x) → length now ≡ length before
+          → Ended (assemble sheet bytes ends text) before room (left_by answer now) (answer_report answer)
+      refused_inputs {x} g a l = rw a (rw (small h) (refused_on (text_under text) g refl (ap (λ (n : ℕ). replicate n 0) l)))

@@ -1,5 +1,5 @@
 -- How an instruction of a text is written. Assumes nothing.
-use Rattle.std.specs.Prelude.{◌≡◌, List, ◌∷◌, ℕ, ◌+◌, ◌≤◌}
+use Rattle.std.specs.Prelude.{◌≡◌, List, ◌∷◌, ℕ, ◌+◌, ◌≤◌, Result, Ok, Err}
 use Rattle.lists.specs.Found.{Found}
 use Rattle.lists.specs.Write.{Put}
 use Rattle.spec_sheet.specs.Row.{length_of}
@@ -8,9 +8,8 @@ use Rattle.spec_hasm.specs.Split.{instruction_name, instruction_operands}
 use Rattle.spec_hasm.specs.Line.{opcode_named}
 use Rattle.spec_hasm.specs.Assemble.{Operands, row_of, found_in, operands_from}
 use Rattle.spec_hasm.specs.Assemble.Operands.{written, refused_operand}
+use Rattle.assemble.specs.declared.operands.BadOperand.{BadOperand}
 use Rattle.assemble.specs.declared.operands.Place.{Place}
-use Rattle.assemble.specs.declared.instruction.Step.{Step}
-use Rattle.assemble.specs.declared.instruction.Step.TheVariants.{On, Refused}
 
 -- the opcode of the instruction s, and what its operands evaluate to at an offset
 abbrev pub opcode_in : Context → List ℕ → ℕ
@@ -28,6 +27,6 @@ pub record WholePut (e : Context) (labels : List ℕ → Found) (s : List ℕ) (
   pub near : next.offset ≤ place.offset + 65
 
 -- or an operand is refused ("then 6 to 12 by line and operand")
-abbrev pub InstructionPut : Context → (List ℕ → Found) → List ℕ → Place → List ℕ → List ℕ → Step → Type 0
-InstructionPut e labels s place out out' (On next) = WholePut e labels s place out out' next
-InstructionPut e labels s place out out' (Refused f operand) = operands_of e labels s place.offset ≡ refused_operand f operand
+abbrev pub InstructionPut : Context → (List ℕ → Found) → List ℕ → Place → List ℕ → List ℕ → Result Place BadOperand → Type 0
+InstructionPut e labels s place out out' (Ok next) = WholePut e labels s place out out' next
+InstructionPut e labels s place out out' (Err bad) = operands_of e labels s place.offset ≡ refused_operand bad.fault bad.operand

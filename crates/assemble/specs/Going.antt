@@ -1,5 +1,5 @@
 -- What is written of a text, and what is left. Assumes nothing.
-use Rattle.std.specs.Prelude.{◌≡◌, List, [], ℕ, ◌+◌, ◌<◌, ◌≤◌, length, drop}
+use Rattle.std.specs.Prelude.{◌≡◌, List, [], ℕ, ◌+◌, ◌<◌, ◌≤◌, length, drop, Result, Ok, Err}
 use Rattle.lists.specs.Found.{Found}
 use Rattle.lists.specs.Scan.{run}
 use Rattle.lists.specs.Write.{Put}
@@ -10,9 +10,8 @@ use Rattle.spec_hasm.specs.Assemble.{Assembled, codes_from, codes_of, behind, by
 use Rattle.spec_hasm.specs.Assemble.Assembled.{not_assembled}
 use Rattle.answers.specs.declared.refusal.Refusal.TheVariants.{BadOperand}
 use Rattle.hasm_read.specs.Lines.{not_feed, line_in}
+use Rattle.assemble.specs.declared.operands.BadOperand as wrong
 use Rattle.assemble.specs.declared.operands.Place.{Place}
-use Rattle.assemble.specs.declared.instruction.Step.{Step}
-use Rattle.assemble.specs.declared.instruction.Step.TheVariants.{On, Refused}
 
 -- what the lines from `at` on evaluate to, the first of which is line n and whose first instruction has offset o
 abbrev pub bytes_at : Context → (List ℕ → Found) → List ℕ → ℕ → ℕ → ℕ → Assembled
@@ -32,6 +31,6 @@ pub record LineAt (s : List ℕ) (at end o : ℕ) : Type 0 where
   pub small : o < 2147483648
 
 -- behind line n, which ends in front of `at`: the next line, or that an operand is refused
-abbrev pub Turned : Context → (List ℕ → Found) → List ℕ → List ℕ → List ℕ → ℕ → ℕ → Place → Step → Type 0
-Turned e labels s out₀ out at n place (On next) = Going e labels s out₀ out at (n + 1) next × (next.offset ≤ place.offset + 65)
-Turned e labels s out₀ out at n place (Refused f operand) = bytes_from e labels 0 (codes_of e s) ≡ not_assembled (BadOperand f n operand)
+abbrev pub Turned : Context → (List ℕ → Found) → List ℕ → List ℕ → List ℕ → ℕ → ℕ → Place → Result Place wrong.BadOperand → Type 0
+Turned e labels s out₀ out at n place (Ok next) = Going e labels s out₀ out at (n + 1) next × (next.offset ≤ place.offset + 65)
+Turned e labels s out₀ out at n place (Err bad) = bytes_from e labels 0 (codes_of e s) ≡ not_assembled (BadOperand bad.fault n bad.operand)

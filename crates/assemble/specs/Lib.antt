@@ -3,5 +3,4 @@ pub mod OperandPuts
 pub mod BodyPuts
 pub mod Going
 pub mod Bodies
-pub mod Answers
 pub mod Passes

@@ -1,15 +1,16 @@
 -- What a text evaluates to, and what a pass over it leaves for the next. Assumes nothing.
 use Rattle.std.specs.Prelude.{◌≡◌, List, ℕ, ◌≤◌, length, take}
-use Rattle.lists.specs.Choice.{pick}
-use Rattle.lists.specs.Found.Found.{found, missing}
+use Rattle.slices.specs.Answers.{found_of}
 use Rattle.answers.specs.Outcome.{Outcome}
-use Rattle.spec_inputs.specs.Context.{Context, context_from}
+use Rattle.spec_inputs.specs.Context.{Context}
 use Rattle.spec_hasm.specs.Assemble.{Assembled, codes_of, unless_bad_name, labels_from, label_offset, assemble_text, assemble_entries}
 use Rattle.spec_hasm.specs.Operation.{assemble_outcome}
 use Rattle.hasm_labels.specs.Slots.{labels_in}
 use Rattle.hasm_labels.specs.LongLabels.{bare_label, long_of}
 use Rattle.hasm_labels.specs.declared.names_pass.Taken.{Taken}
+use Rattle.hasm_labels.specs.declared.source.Source.{Source}
 use Rattle.strings.specs.Keys.{text_space, TextsIndexed}
+use Rattle.hasm_labels.specs.Sources.{context_of}
 
 -- what a text evaluates to
 abbrev pub text_outcome : Context → List ℕ → Outcome
@@ -21,11 +22,11 @@ pub record Named (e : Context) (text : List ℕ) (taken : Taken) (slots : List (
   pub named : (rest : Assembled) → unless_bad_name e (codes_of e text) rest ≡ rest
   pub counted : taken.count ≡ assemble_entries e text
   pub held : taken.kept ≤ length slots → labels_in text (take taken.kept slots) ≡ long_of (labels_from e 0 (codes_of e text))
-  pub bare : label_offset (labels_from e 0 (codes_of e text)) bare_label ≡ pick taken.has (found taken.place) missing
+  pub bare : taken.place ≡ found_of (label_offset (labels_from e 0 (codes_of e text)) bare_label)
 
 -- under a sheet's tables, whatever the strings are
-abbrev pub NamesGood : List ℕ → List (List ℕ) → List (List ℕ) → List ℕ → Taken → List (List ℕ) → Type 0
-NamesGood sheet types ops text taken slots = (bytes ends : List ℕ) → Named (context_from sheet types ops bytes ends) text taken slots
+abbrev pub NamesGood : Source → Taken → List (List ℕ) → Type 0
+NamesGood s taken slots = (bytes ends : List ℕ) → Named (context_of s bytes ends) s.text.now taken slots
 
 -- space for the texts' index
 pub record IdSpace (ids ends : List ℕ) : Type 0 where

@@ -1,9 +1,9 @@
 // Assembling a text under a sheet and a string table: its instructions as bytes, then the operation.
 #![tactic(auto)]
 
-pub mod answer; // what assembling answers, and its numbers
 pub mod assemble; // the operation
 pub mod body; // all instructions of a text as bytes
+pub mod context; // what operands are read under
 pub mod instruction; // one instruction as bytes
 pub mod listed; // all instructions, with the labels listed and indexed
 pub mod operands; // an instruction's operands as bytes

@@ -1,134 +1,112 @@
 // The passes over a text, in document 01's order: 3 and 2, then 4 and 5, then 6 to 12, then 18 and 19.
 ghost use Rattle.std.specs.Prelude.{◌≡◌, [], ◌∷◌, ◌≤◌, length};
+ghost use Rattle.answers.specs.Answers.{answer_report};
 ghost use Rattle.answers.specs.Report.{cleared};
 ghost use Rattle.answers.specs.Outcome.{Ended};
+ghost use Rattle.operation.specs.Ends.{left_by};
 ghost use Rattle.limits.specs.Limits.{text_limit};
 ghost use Rattle.spec_hasm.specs.Text.{lines_of};
 ghost use Rattle.spec_hasm.specs.Assemble.{Assembled, unless_bad_line};
-ghost use Rattle.sheet.specs.Keys.{NamesIndexed};
 ghost use Rattle.strings.specs.Keys.{TextsIndexed};
-ghost use Rattle.spec_inputs.specs.Context.{context_from};
-ghost use Rattle.assemble.specs.Answers.{assemble_report};
+ghost use Rattle.hasm_labels.specs.Sources.{context_of};
+ghost use Rattle.assemble.specs.Contexts.{tables_context};
 ghost use Rattle.assemble.specs.Passes.{text_outcome, IdSpace, IdsLeft, NamesGood};
 
-use crate::answer::AssembleAnswer;
-use crate::body::Bytes;
+use answers::failure::Answer;
 use hasm_labels::label_entry::Slot;
-use hasm_labels::names_pass::{Names, Taken};
-use hasm_read::lines::Checked;
-use slices::clearing::clear_labels;
-use slices::write::clear;
-
-// Space for the index of names. No contract, since what fills it says what it leaves.
-fn name_space() -> [u32; sheet::name_index::NAME_INDEX] {
-    [0; sheet::name_index::NAME_INDEX]
-}
+use hasm_labels::names_pass::{Taken, read_names};
+use hasm_labels::source::Source;
+use operation::ending::{measure, settle};
+use sheet::name_index::NAME_INDEX;
+use sheet::tables::Tables;
+use slices::clearing::clear;
+use slices::space::zeroed;
+use strings::table::StringTable;
+use strings::text_index::{TextIndex, index_texts};
 
 // Writes the instructions of a text whose lines and names are good, and measures them. The texts' index goes to `ids`.
 fn put_indexed(
     ids: &mut [u32],
-    sheet: &[u8],
-    types: &[[u8; 8]; 256],
-    ops: &[[usize; 4]; 256],
-    names: &[u32],
-    bytes: &[u8],
-    ends: &[u32],
-    text: &[u8],
+    source: Source<'_>,
+    strings: StringTable<'_>,
     taken: Taken,
-    labels: &[Slot],
+    slots: &[Slot],
     out: &mut [u8],
-) -> AssembleAnswer
-    requires id_space { IdSpace ids.old ends.now × (length text.now ≤ text_limit) × NamesIndexed sheet.now ops.now names.now }
-    requires names_good { NamesGood sheet.now types.now ops.now text.now taken labels.now × ((rest : Assembled) → unless_bad_line 1 (lines_of text.now) rest ≡ rest) }
-    ensures ended { Ended (text_outcome (context_from sheet.now types.now ops.now bytes.now ends.now) text.now) out.old (length labels.now ∷ []) out.new (assemble_report result) }
-    ensures texts_indexed { TextsIndexed bytes.now ends.now ids.new }
+) -> Answer
+    requires id_space { IdSpace ids.old strings.ends.now }
+    requires names_good { NamesGood source taken slots.now × ((rest : Assembled) → unless_bad_line 1 (lines_of source.text.now) rest ≡ rest) }
+    ensures ended { Ended (text_outcome (context_of source.entry strings.entry.bytes.now strings.entry.ends.now) source.entry.text.now) out.old (length slots.now ∷ []) (left_by result out.new) (answer_report result) }
+    ensures texts_indexed { TextsIndexed strings.entry.bytes.now strings.entry.ends.now ids.new }
 {
-    strings::text_index::index_texts(bytes, ends, ids);
-    let b = crate::listed::put_labelled(
-        bytes, ends, ids, text, sheet, types, ops, names, labels, taken, out,
-    );
-    match b {
-        Bytes::Written(k) => {
-            let m = operation::ending::measure(
-                k,
-                limits::BODY_LIMIT,
-                taken.count,
-                labels.len(),
-                out,
-            );
-            crate::answer::measured_answer(m, k)
-        }
-        Bytes::Refused(x) => {
-            clear(out);
-            AssembleAnswer::Refused(x)
-        }
-    }
+    index_texts(strings, ids);
+    let texts = TextIndex {
+        strings,
+        index: ids,
+    };
+    let k = crate::listed::put_labelled(texts, source, slots, taken, out)?;
+    measure(k, limits::BODY_LIMIT, taken.count, slots.len(), out)
 }
 
 // Reads the names of a text whose lines are good, which stores the long labels that fit, then writes its instructions.
 fn name_and_put(
     ids: &mut [u32],
-    sheet: &[u8],
-    types: &[[u8; 8]; 256],
-    ops: &[[usize; 4]; 256],
-    bytes: &[u8],
-    ends: &[u32],
+    tables: Tables<'_>,
+    strings: StringTable<'_>,
     text: &[u8],
     out: &mut [u8],
     labels: &mut [Slot],
-) -> AssembleAnswer
-    requires id_space { IdSpace ids.old ends.now × (length text.now ≤ text_limit) }
+) -> Answer
+    requires id_space { IdSpace ids.old strings.ends.now × (length text.now ≤ text_limit) }
     requires rest_value { (rest : Assembled) → unless_bad_line 1 (lines_of text.now) rest ≡ rest }
-    ensures ended { Ended (text_outcome (context_from sheet.now types.now ops.now bytes.now ends.now) text.now) out.old (length labels.old ∷ []) out.new (assemble_report result) }
-    ensures labels_after { labels.new ≡ cleared (0 ∷ 0 ∷ 0 ∷ []) labels.old }
-    ensures ids_left { IdsLeft bytes.now ends.now ids.old ids.new }
+    ensures ended { Ended (text_outcome (tables_context tables.entry strings.entry.bytes.now strings.entry.ends.now) text.now) out.old (length labels.old ∷ []) (left_by result out.new) (answer_report result) }
+    ensures ids_left { IdsLeft strings.entry.bytes.now strings.entry.ends.now ids.old ids.new }
 {
-    let mut names = name_space();
-    sheet::name_index::index_names(sheet, ops, &mut names);
-    let mut none: [u64; 0] = [];
-    let n = hasm_labels::names_pass::read_names(
-        text, sheet, types, ops, &names, labels, b"L", &mut none, 0,
-    );
-    match n {
-        Names::Good(taken) => {
-            let a = put_indexed(
-                ids, sheet, types, ops, &names, bytes, ends, text, taken, labels, out,
-            );
-            clear_labels(labels);
-            a
-        }
-        Names::Refused(x) => {
-            clear(out);
-            AssembleAnswer::Refused(x)
-        }
-    }
+    let mut names = zeroed::<u32, NAME_INDEX>(0);
+    sheet::name_index::index_names(tables.text, tables.ops, &mut names);
+    let source = Source {
+        text,
+        tables,
+        names: &names,
+    };
+    let taken = read_names(source, labels, b"L", &mut [], 0)?;
+    put_indexed(ids, source, strings, taken, labels, out)
 }
 
-// Assembles a text under the tables of a sheet, whose names are parts of `sheet`. The texts' index is left in `ids`; where a line
-// or a name is refused, `ids` is left as it was.
-pub fn assemble_under(
+// Assembles a text under the tables of a sheet. Where there is no result, the output still has to be cleared, and the label entries
+// have in any case.
+pub(crate) fn put_text(
     ids: &mut [u32],
-    sheet: &[u8],
-    types: &[[u8; 8]; 256],
-    ops: &[[usize; 4]; 256],
-    bytes: &[u8],
-    ends: &[u32],
+    tables: Tables<'_>,
+    strings: StringTable<'_>,
     text: &[u8],
     out: &mut [u8],
     labels: &mut [Slot],
-) -> AssembleAnswer
-    requires { IdSpace ids.old ends.now × (length text.now ≤ text_limit) }
-    ensures ended { Ended (text_outcome (context_from sheet.now types.now ops.now bytes.now ends.now) text.now) out.old (length labels.old ∷ []) out.new (assemble_report result) }
-    ensures labels_after { labels.new ≡ cleared (0 ∷ 0 ∷ 0 ∷ []) labels.old }
-    ensures ids_left { IdsLeft bytes.now ends.now ids.old ids.new }
+) -> Answer
+    requires { IdSpace ids.old strings.ends.now × (length text.now ≤ text_limit) }
+    ensures ended { Ended (text_outcome (tables_context tables.entry strings.entry.bytes.now strings.entry.ends.now) text.now) out.old (length labels.old ∷ []) (left_by result out.new) (answer_report result) }
+    ensures ids_left { IdsLeft strings.entry.bytes.now strings.entry.ends.now ids.old ids.new }
 {
-    let c = hasm_read::lines::check_lines(text);
-    match c {
-        Checked::Good => name_and_put(ids, sheet, types, ops, bytes, ends, text, out, labels),
-        Checked::Refused(x) => {
-            clear(out);
-            clear_labels(labels);
-            AssembleAnswer::Refused(x)
-        }
-    }
+    hasm_read::lines::check_lines(text)?;
+    name_and_put(ids, tables, strings, text, out, labels)
+}
+
+// Assembles a text under the tables of a sheet. The texts' index is left in `ids`; where a line or a name is refused, `ids` is left as
+// it was.
+pub fn assemble_under(
+    ids: &mut [u32],
+    tables: Tables<'_>,
+    strings: StringTable<'_>,
+    text: &[u8],
+    out: &mut [u8],
+    labels: &mut [Slot],
+) -> Answer
+    requires { IdSpace ids.old strings.ends.now × (length text.now ≤ text_limit) }
+    ensures ended { Ended (text_outcome (tables_context tables.entry strings.entry.bytes.now strings.entry.ends.now) text.now) out.old (length labels.old ∷ []) out.new (answer_report result) }
+    ensures labels_after { labels.new ≡ cleared (0 ∷ 0 ∷ 0 ∷ []) labels.old }
+    ensures ids_left { IdsLeft strings.entry.bytes.now strings.entry.ends.now ids.old ids.new }
+{
+    let answer = put_text(ids, tables, strings, text, out, labels);
+    settle(answer, out);
+    clear(labels, [0, 0, 0]);
+    answer
 }

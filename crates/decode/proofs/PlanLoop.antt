@@ -4,8 +4,8 @@ use mathlib.Core.List.{List, [], append-nil}
 use Prim.Native.Nat.{ℕ, suc, ◌+◌, ◌-◌, ◌*◌, ◌≤◌, ◌<◌}
 use native.Mathlib.Numerals.{add-one}
 use native.Mathlib.Omega.{arith}
-use lib.ListN.{length, take, drop, get_or, set, replicate, length-drop, get_or-replicate, drop_of_length-le}
-use lib.Seq.{paste, paste-zero, paste-suc, length-paste, take_all, get_or-drop}
+use lib.ListN.{length, take, drop, get_or, set, replicate, length-drop, drop_of_length-le}
+use lib.Seq.{paste, paste-zero, take_all, get_or-drop}
 use Rattle.lists.specs.Scan.{part}
 use Rattle.spec_numbers.specs.LittleEndian.{le}
 use Rattle.spec_sheet.specs.Types.{width_of, kind_of}
@@ -97,13 +97,6 @@ module _ (plan s d : List ℕ) (k at from : ℕ) where
         (two_more d out (drop (2 * from) r) k (2 * i) (k + 2 * i) kind (le (part s start (end - start))) (omega arith) (omega (arith, n)) refl (g row e)
         (ek ∙ (rw (e.0, add-one (2 * j)) (plan_kind (count_of row) 1 row j l) ∙ (sym (pairs_kind row s (at + 1) j l) ∙ rw (get_or-drop (2 * from) r (2 * i) 0, b))))
         (rw (w, p.0) (sym (pairs_bits row s (at + 1) j l) ∙ rw (get_or-drop (2 * from) r (suc (2 * i)) 0, b'))))
-
--- one word more of eight zeros
-pub zero_more : (d out : List ℕ) (k i : ℕ) → k + 8 ≤ length d → i < 8 → out ≡ paste d k (replicate 8 0) i → set out (k + i) 0 ≡ paste d k (replicate 8 0) (i + 1)
-zero_more d out k i h l e = rw (e, add-one i) (rw (get_or-replicate {A = ℕ} 8 i 0 0 l) at (paste-suc d k (replicate 8 0) i 0 (omega arith) (omega arith)))
-
-pub zeros_length : (d out : List ℕ) (k i : ℕ) → k + 8 ≤ length d → i ≤ 8 → out ≡ paste d k (replicate 8 0) i → length out ≡ length d
-zeros_length d out k i h l e = rw e (length-paste d k (replicate 8 0) i (omega arith) (omega arith))
 
 -- the last four operands behind the first four
 pub all_eight : (row s d : List ℕ) (k at : ℕ) → length row ≡ 8 → k + 16 ≤ length d

@@ -7,17 +7,17 @@ ghost use Rattle.spec_body.specs.Decode.Decoded.{decoded};
 ghost use Rattle.decode.specs.Bodies.{stored_at, body_answer};
 ghost use Rattle.decode.specs.Tables.{PlanOf};
 
-use crate::tables::{LENGTH, Plan};
+use crate::record::Instruction;
+use crate::tables::LENGTH;
 use answers::refusal::Refusal;
 use slices::widen::byte_index;
 
 // Writes the record of an instruction as the n-th, where there is room for it.
-fn store_record(out: &mut [u64], n: usize, row: [u8; 8], plan: &Plan, s: &[u8], at: usize)
-    requires { PlanOf row plan.now × (at + length_of row ≤ length s.now) }
-    ensures { out.new ≡ stored_at out.old n (record_of row s.now at) }
+fn store_record(out: &mut [u64], n: usize, instruction: &Instruction<'_>)
+    ensures { out.new ≡ stored_at out.old n (record_of instruction.now.row instruction.now.body.now instruction.now.at) }
 {
     if n < out.len() / 20 {
-        crate::record::put_record(out, n * 20, row, plan, s, at);
+        instruction.put_record(out, n * 20);
     }
 }
 
@@ -45,7 +45,13 @@ pub(crate) fn decode_body(
         if s.len() - at < size {
             return Err(Refusal::Cut(at));
         }
-        store_record(out, n, row, plan, s, at);
+        let instruction = Instruction {
+            row,
+            plan,
+            body: s,
+            at,
+        };
+        store_record(out, n, &instruction);
         at += size;
         n += 1;
     }

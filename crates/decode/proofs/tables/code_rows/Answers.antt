@@ -9,7 +9,7 @@ loop-c-init c = (search rules, none_made _ _)
 pub loop-c-preserved : goal.loop-c-preserved
 loop-c-preserved c =
     let l = c.loop-c in
-    (search rules, one_more _ _ _ _ _ l.invariant.1 (search rules) c.code_row-row.ensures)
+    (search rules, one_more _ _ _ _ _ l.invariant.1 (search rules) c.code_row.ensures)
 
 pub returns : goal.returns
 returns c = codes_made _ _ c.loop-c.invariant.1 c.loop-c-test.false

@@ -1,4 +1,4 @@
-use Prim.Native.Nat.{◌-◌, ◌≤◌}
+use Prim.Native.Nat.{◌≤◌}
 use mathlib.Core.Path.{◌≡◌}
 use Rattle.decode.specs.Tables.{code_row}
 use Rattle.sheet.proofs.Filled.{Filled}
@@ -6,6 +6,3 @@ use Rattle.decode.proofs.tables.code_rows.Given as goal
 
 abbrev pub invariant-loop-c : goal.invariant-loop-c
 invariant-loop-c l = (l.c ≤ 13) × Filled (λ c row. row ≡ code_row c) l.initial.rows l.rows l.c
-
-abbrev pub decreases-loop-c : goal.decreases-loop-c
-decreases-loop-c l = 13 - l.c

@@ -1,6 +1,0 @@
-use lib.ListN.{length-set}
-use native.Mathlib.Omega.{arith}
-use Rattle.decode.proofs.record.put_pair.Goals as goal
-
-pub bounds-out-k-2 : goal.bounds-out-k-2
-bounds-out-k-2 c = simp length-set (omega arith)

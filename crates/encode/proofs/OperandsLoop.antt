@@ -19,7 +19,7 @@ use Rattle.spec_body.specs.Encode.Operands.{bytes, misfit}
 use Rattle.encode.specs.RecordPlaces.{pairs_at}
 use Rattle.encode.specs.OperandsWritten.{Operanded}
 use Rattle.encode.specs.OperandsWritten.Operanded.{whole, misfits}
-use Rattle.encode.specs.declared.record_operands.Wrote.TheVariants.{To, Refused}
+use Rattle.std.specs.Prelude.{Ok, Err}
 use Rattle.encode.proofs.ShapeLaws.{pair_word, next_pairs}
 
 prepend_none : (x : Operands) → prepend_bytes [] x ≡ x
@@ -58,11 +58,11 @@ start row words at out «from» h l = record { seen = []; few = omega arith; wro
 
 module _ (index : ℕ) (row words : List ℕ) (at : ℕ) (out₀ : List ℕ) («from» : ℕ) (out : List ℕ) (k i : ℕ) (g : Going row words at out₀ «from» out k i) where
   -- no operand is left
-  done : encode_operands (drop i row) (drop (2 * i) (pairs_at words at)) (i + 1) ≡ bytes [] → Operanded (encode_operands row (pairs_at words at) 1) index out₀ «from» out (To k)
+  done : encode_operands (drop i row) (drop (2 * i) (pairs_at words at)) (i + 1) ≡ bytes [] → Operanded (encode_operands row (pairs_at words at) 1) index out₀ «from» out (Ok k)
   unfolding prepend_bytes
   done e = whole g.seen k (g.left ∙ (rw e (ap bytes (append-nil g.seen)))) refl g.wrote
 
-  pub ended : length row ≤ i → Operanded (encode_operands row (pairs_at words at) 1) index out₀ «from» out (To k)
+  pub ended : length row ≤ i → Operanded (encode_operands row (pairs_at words at) 1) index out₀ «from» out (Ok k)
   unfolding encode_operands
   ended h = done (rw (drop_of_length-le row h))
 
@@ -70,7 +70,7 @@ module _ (index : ℕ) (row words : List ℕ) (at : ℕ) (out₀ : List ℕ) («
     here : drop i row ≡ get_or row i 0 ∷ drop (i + 1) row
     here = rw (add-one i) (drop-cons row i 0 h)
 
-    pub stops : get_or row i 0 ≡ 0 → Operanded (encode_operands row (pairs_at words at) 1) index out₀ «from» out (To k)
+    pub stops : get_or row i 0 ≡ 0 → Operanded (encode_operands row (pairs_at words at) 1) index out₀ «from» out (Ok k)
     stops e = done (rw here (no_code (get_or row i 0) (drop (i + 1) row) _ _ e))
 
     module _ (e : get_or row i 0 ≡ 0 → ⊥) (p : ℕ) (q : p ≡ at + 4 + 2 * i) where
@@ -80,7 +80,7 @@ module _ (index : ℕ) (row words : List ℕ) (at : ℕ) (out₀ : List ℕ) («
           let w : get_or (drop (2 * i) (pairs_at words at)) 0 0 ≡ get_or words p 0 = pair_word words at i p q l 0 (omega arith) ∙ ap (λ (n : ℕ). get_or words n 0) z in
           rw (w, pair_word words at i p q l 1 (omega arith))
 
-      pub refuses : (out' : List ℕ) → encode_operand (get_or row i 0) (get_or words p 0) (get_or words (p + 1) 0) ≡ no_fit → Operanded (encode_operands row (pairs_at words at) 1) index out₀ «from» out' (Refused (BadOperand Misfit index (i + 1)))
+      pub refuses : (out' : List ℕ) → encode_operand (get_or row i 0) (get_or words p 0) (get_or words (p + 1) 0) ≡ no_fit → Operanded (encode_operands row (pairs_at words at) 1) index out₀ «from» out' (Err (BadOperand Misfit index (i + 1)))
       unfolding prepend_bytes
       refuses out' f = misfits (i + 1) (g.left ∙ (rw (here, unfit (get_or row i 0) (drop (i + 1) row) (drop (2 * i) (pairs_at words at)) (i + 1) e (operand ∙ f)))) refl
 

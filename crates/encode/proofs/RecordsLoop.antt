@@ -18,8 +18,7 @@ use Rattle.encode.specs.Encoding.{Encoding}
 use Rattle.lists.proofs.Aheads.{◌and_then◌, not_ahead, none_ahead, more_ahead}
 use Rattle.encode.specs.Written.Turn.{went, stopped}
 use Rattle.encode.specs.Encoding.Encoding.{all, refuses}
-use Rattle.encode.specs.declared.record_operands.Wrote.{Wrote}
-use Rattle.encode.specs.declared.record_operands.Wrote.TheVariants.{To, Refused}
+use Rattle.std.specs.Prelude.{Result, Ok, Err}
 
 append_none : (x : Encoded) → append_to [] x ≡ x
 unfolding append_to
@@ -47,13 +46,13 @@ module _ (types : List (List ℕ)) (last : ℕ) (words out₀ out : List ℕ) (k
   fuel : length words / 20 + 1 - i ≡ suc (length words / 20 - i)
   fuel = omega (arith, g.few)
 
-  module _ (h : i < length words / 20) (spare : ℕ) (s : spare ≡ length words / 20 - i - 1) (out' : List ℕ) (r : Wrote) (t : Turn (encode_record types last i (record_at words (20 * i))) out k spare out' r) where
+  module _ (h : i < length words / 20) (spare : ℕ) (s : spare ≡ length words / 20 - i - 1) (out' : List ℕ) (r : Result ℕ Refusal) (t : Turn (encode_record types last i (record_at words (20 * i))) out k spare out' r) where
     this : encode_from (length words / 20 + 1 - i) types last words i ≡ encode_record types last i (record_at words (20 * i)) (encode_from (length words / 20 + 1 - (i + 1)) types last words (i + 1))
     this =
         let f : length words / 20 + 1 - (i + 1) ≡ length words / 20 - i = omega arith in
         rw (fuel, f) (from_more types last words (length words / 20 - i) i (omega arith))
 
-    pub turn : (n : ℕ) → r ≡ To n → Going types last words out₀ out' n (i + 1)
+    pub turn : (n : ℕ) → r ≡ Ok n → Going types last words out₀ out' n (i + 1)
     turn n q = go t
       where
         go : Turn (encode_record types last i (record_at words (20 * i))) out k spare out' r → Going types last words out₀ out' n (i + 1)
@@ -65,18 +64,18 @@ module _ (types : List (List ℕ)) (last : ℕ) (words out₀ out : List ℕ) (k
               wrote = more_ahead (omega arith) (g.wrote and_then (rw z at p, omega arith));
               left = g.left ∙ (rw (this, x (encode_from (length words / 20 + 1 - (i + 1)) types last words (i + 1))) (append_twice g.seen (b ∷ bs) _));
             }
-        go (stopped f x y) = absurd (let z : ◌≡◌ {A = ℕ} 0 1 = cc (sym y ∙ q) in omega arith)
+        go (stopped f x y) = let z : Err f ≡ Ok n = sym y ∙ q in cc z
 
-    pub stops : {f : Refusal} → r ≡ Refused f → Encoding (encode_records types last words) out₀ out' r
+    pub stops : {f : Refusal} (a : Result ℕ Refusal) → r ≡ Err f → a ≡ Err f → Encoding (encode_records types last words) out₀ out' a
     unfolding append_to
-    stops q = go t
+    stops {f} a q y = go t
       where
-        go : Turn (encode_record types last i (record_at words (20 * i))) out k spare out' r → Encoding (encode_records types last words) out₀ out' r
-        go (went b bs m x y p) = absurd (let z : ◌≡◌ {A = ℕ} 0 1 = cc (sym y ∙ q) in omega arith)
-        go (stopped f x y) = refuses f (g.left ∙ (rw (this, x (encode_from (length words / 20 + 1 - (i + 1)) types last words (i + 1))))) y
+        go : Turn (encode_record types last i (record_at words (20 * i))) out k spare out' r → Encoding (encode_records types last words) out₀ out' a
+        go (went b bs m x z p) = let w : Ok m ≡ Err f = sym z ∙ q in cc w
+        go (stopped h x z) = refuses h (g.left ∙ (rw (this, x (encode_from (length words / 20 + 1 - (i + 1)) types last words (i + 1))))) (y ∙ (sym q ∙ z))
 
   module _ (h : length words / 20 ≤ i) where
-    pub cut : (n : ℕ) → n ≡ length words / 20 → (length words % 20 ≡ 0 → ⊥) → Encoding (encode_records types last words) out₀ out (Refused (BadRecord n))
+    pub cut : (n : ℕ) → n ≡ length words / 20 → (length words % 20 ≡ 0 → ⊥) → Encoding (encode_records types last words) out₀ out (Err (BadRecord n))
     unfolding append_to
     cut n e f =
         let q : i ≡ n = omega (arith, g.few) in
@@ -85,6 +84,6 @@ module _ (types : List (List ℕ)) (last : ℕ) (words out₀ out : List ℕ) (k
         more : (length words % 20 ≡ 0 → ⊥) → 20 * i < length words
         more f = by_eqb (length words % 20) 0 (λ e. absurd (f e)) (λ e. omega (arith, g.few))
 
-    pub ended : length words % 20 ≡ 0 → Encoding (encode_records types last words) out₀ out (To k)
+    pub ended : length words % 20 ≡ 0 → Encoding (encode_records types last words) out₀ out (Ok k)
     unfolding append_to
     ended e = all g.seen k (g.left ∙ (rw (fuel, from_end types last words (suc (length words / 20 - i)) i (omega (arith, g.few))) (ap encoded (append-nil g.seen)))) refl (none_ahead (more_ahead (omega arith) g.wrote))

@@ -2,5 +2,4 @@ pub mod Canonical
 pub mod RecordPlaces
 pub mod OperandsWritten
 pub mod Written
-pub mod Answers
 pub mod Encoding

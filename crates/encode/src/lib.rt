@@ -1,7 +1,6 @@
 // Encoding: records into the bytes of a body (encode.rs).
 #![tactic(auto)]
 
-pub mod answer; // what encoding answers, and its numbers
 pub mod canonical; // records as decoding makes them, written without a branch by operand
 pub mod encode; // all records, and the operation
 pub mod record; // one record into bytes

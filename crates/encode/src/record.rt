@@ -5,7 +5,7 @@ ghost use Rattle.encode.specs.Canonical.{code_table, Counted};
 ghost use Rattle.encode.specs.RecordPlaces.{record_at};
 ghost use Rattle.encode.specs.Written.{Turn};
 
-use crate::record_operands::{Wrote, encode_operands};
+use crate::record_operands::encode_operands;
 use crate::record_shape::good_shape;
 use answers::refusal::Refusal;
 
@@ -17,21 +17,21 @@ fn encode_any(
     i: usize,
     out: &mut [u8],
     from: usize,
-) -> Wrote
+) -> Result<usize, Refusal>
     requires { (20 * i + 20 ≤ length words.now) × (last ≤ 255) }
     ensures { Turn (encode_record types.now last i (record_at words.now (20 * i))) out.old «from» 0 out.new result }
 {
     let at = 20 * i;
     if !good_shape(words, at) {
-        return Wrote::Refused(Refusal::BadRecord(i));
+        return Err(Refusal::BadRecord(i));
     }
     let opcode = words[at + 1];
     if (last as u64) < opcode {
-        return Wrote::Refused(Refusal::Beyond(i));
+        return Err(Refusal::Beyond(i));
     }
     let row = types[opcode as usize];
     if words[at + 3] != sheet::row::operand_count(row) {
-        return Wrote::Refused(Refusal::OperandCount(i));
+        return Err(Refusal::OperandCount(i));
     }
     let k = slices::write::put_byte(out, from, opcode as u8);
     encode_operands(row, words, i, out, k)
@@ -49,7 +49,7 @@ pub(crate) fn encode_record(
     spare: usize,
     out: &mut [u8],
     from: usize,
-) -> Wrote
+) -> Result<usize, Refusal>
     requires { (codes.now ≡ code_table) × (Counted types.now last counts.now) × (20 * i + 20 ≤ length words.now) × (last ≤ 255) }
     ensures { Turn (encode_record types.now last i (record_at words.now (20 * i))) out.old «from» spare out.new result }
 {
@@ -57,7 +57,7 @@ pub(crate) fn encode_record(
     if crate::canonical::has_room(out.len(), from, spare) {
         if crate::canonical::is_canonical(codes, counts, types, last, words, at) {
             let k = crate::canonical::put_record(codes, types, words, at, out, from);
-            return Wrote::To(k);
+            return Ok(k);
         }
     }
     encode_any(types, last, words, i, out, from)

@@ -5,42 +5,31 @@ ghost use Rattle.encode.specs.RecordPlaces.{record_at, pairs_at};
 ghost use Rattle.encode.specs.OperandsWritten.{Operanded};
 
 use answers::refusal::{OperandFault, Refusal};
-use operand::write::Fitted;
 
-// Operands or records that were written: the next position; or the first refusal.
-#[derive(Clone, Copy)]
-pub(crate) enum Wrote {
-    To(usize),
-    Refused(Refusal),
-}
-
-// Writes the operands of record i, whose shape is good, from position `from` on.
+// Writes the operands of record i, whose shape is good, from position `from` on: the next position.
 pub(crate) fn encode_operands(
     row: [u8; 8],
     words: &[u64],
     i: usize,
     out: &mut [u8],
     from: usize,
-) -> Wrote
+) -> Result<usize, Refusal>
     requires { (20 * i + 20 ≤ length words.now) × (good_shape (record_at words.now (20 * i)) ≡ true) }
     ensures { Operanded (encode_operands row (pairs_at words.now (20 * i)) 1) i out.old «from» out.new result }
 {
     let mut k = from;
-    let mut j: usize = 0;
-    while j < 8 {
+    for j in 0..8 {
         let c = row[j];
         if c == 0 {
-            return Wrote::To(k);
+            return Ok(k);
         }
         let p = 20 * i + 4 + 2 * j;
         let bits = words[p + 1];
         let value = operand::value::value_of(words[p] as u8, bits);
-        let fitted = operand::write::write_operand(c, value, bits);
-        let Fitted::Bits(n) = fitted else {
-            return Wrote::Refused(Refusal::BadOperand(OperandFault::Misfit, i, j + 1));
+        let Some(n) = operand::write::write_operand(c, value, bits) else {
+            return Err(Refusal::BadOperand(OperandFault::Misfit, i, j + 1));
         };
         k = numbers::little_endian::put_le(out, k, sheet::operand_types::width(c), n);
-        j += 1;
     }
-    Wrote::To(k)
+    Ok(k)
 }

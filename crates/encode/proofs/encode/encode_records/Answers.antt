@@ -1,6 +1,7 @@
 use mathlib.Core.Path.{refl}
 use native.Mathlib.Omega.{arith}
 use Rattle.lists.proofs.Aheads.{ahead_length}
+use Rattle.sheet.proofs.AnswerLaws.{is_error}
 use Rattle.encode.proofs.RecordsLoop.{start, turn, stops, cut, ended}
 use borrow.Author.Rules.{rules}
 use Rattle.encode.proofs.encode.encode_records.Goals as goal
@@ -10,20 +11,20 @@ loop-i-init c =
     let a = c.args in
     start a.types.now a.last a.words.now a.out.now (omega arith)
 
-pub shape_of-out-in_default : goal.shape_of-out-in_default
-shape_of-out-in_default c =
+pub shape_of-out-in_err-k : goal.shape_of-out-in_err-k
+shape_of-out-in_err-k c =
     let e = ahead_length c.loop-i.invariant.wrote in
     search rules
 
-pub returns-in_default : goal.returns-in_default
-returns-in_default c =
+pub returns-in_err-k : goal.returns-in_err-k
+returns-in_err-k c =
     let l = c.loop-i in
-    stops _ _ _ _ _ _ _ l.invariant c.loop-i-test.true _ refl _ _ c.encode_record-r.ensures c.in_default.is
+    stops _ _ _ _ _ _ _ l.invariant c.loop-i-test.true _ refl _ _ c.encode_record.ensures _ c.in_err-k.was (is_error _ c.from_residual.ensures.1)
 
 pub loop-i-preserved : goal.loop-i-preserved
 loop-i-preserved c =
     let l = c.loop-i in
-    turn _ _ _ _ _ _ _ l.invariant c.loop-i-test.true _ refl _ _ c.encode_record-r.ensures _ c.in-To.is
+    turn _ _ _ _ _ _ _ l.invariant c.loop-i-test.true _ refl _ _ c.encode_record.ensures _ c.in_ok-k.was
 
 pub shape_of-out-then-words-ne0 : goal.shape_of-out-then-words-ne0
 shape_of-out-then-words-ne0 c = ahead_length c.loop-i.invariant.wrote

@@ -38,7 +38,7 @@ returns-in_default c =
     let t = c.loop-j-test.true in
     let h : length c.args.row ≡ 8 = search rules in
     let e = value_encoded _ _ _ _ (shape_pair c.args.words.now (20 * c.args.i) l.j _ refl t c.requires.1) c.value_of-value.ensures in
-    refuses c.args.i c.args.row _ _ _ _ _ _ _ l.invariant (omega arith) t c.if-c-eq0.false _ refl _ (fitted_misfit _ (sym (c.write_operand-fitted.ensures ∙ ap fitted_of e) ∙ c.in_default.is))
+    refuses c.args.i c.args.row _ _ _ _ _ _ _ l.invariant (omega arith) t c.if-c-eq0.false _ refl _ (fitted_misfit _ (sym (c.write_operand.ensures ∙ ap fitted_of e) ∙ c.in_default.is))
 
 pub loop-j-preserved : goal.loop-j-preserved
 loop-j-preserved c =
@@ -47,7 +47,7 @@ loop-j-preserved c =
     let h : length c.args.row ≡ 8 = search rules in
     let e = value_encoded _ _ _ _ (shape_pair c.args.words.now (20 * c.args.i) l.j _ refl t c.requires.1) c.value_of-value.ensures in
     turn c.args.i c.args.row _ _ _ _ _ _ _ l.invariant (omega arith) t c.if-c-eq0.false _ refl _ _ _ _
-    (fitted_bits _ _ (sym (c.write_operand-fitted.ensures ∙ ap fitted_of e) ∙ c.in-Bits.is)) c.width.ensures c.put_le-k.ensures
+    (fitted_bits _ _ (sym (c.write_operand.ensures ∙ ap fitted_of e) ∙ c.in-Some.is)) c.width.ensures c.put_le-k.ensures
 
 pub shape_of-out : goal.shape_of-out
 shape_of-out c = kept_length c.loop-j.invariant.wrote

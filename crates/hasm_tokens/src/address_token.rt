@@ -21,16 +21,17 @@ pub enum Target {
 pub fn target_in(t: &[u8]) -> Target
     ensures { (labels : List ℕ → Found) → target_in labels t.now ≡ target_or result (labels t.now) }
 {
-    if t.len() == 0 || t[0] != 76 {
+    let [b'L', digits @ ..] = t else {
         return Target::Bad;
-    }
-    match parse_u32(&t[1..]) {
+    };
+    match parse_u32(digits) {
         Some(n) => Target::Offset(n),
         None => Target::Label,
     }
 }
 
 // Whether a distance fits a signed byte.
+#[tactic(auto, using(std::proofs::lemmas::Bool::Decides::nat_tests), unfolding(spec_hasm::specs::Token::is_near))]
 fn is_near(distance: u32) -> bool
     ensures { result ≡ is_near distance }
 {
@@ -38,6 +39,7 @@ fn is_near(distance: u32) -> bool
 }
 
 // A distance wraps at 32 bits. Four bytes hold every one; one byte holds a near one.
+#[tactic(auto, using(std::proofs::lemmas::Bool::Decides::nat_tests), unfolding(spec_hasm::specs::Token::distance_to))]
 pub fn distance_to(width: usize, offset: u64, target: u64) -> Result<u64, OperandFault>
     requires { (offset < 2 ^ 32) × (target < 2 ^ 32) }
     ensures { result ≡ token_answer (distance_to width offset (value target)) }

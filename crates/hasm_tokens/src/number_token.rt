@@ -1,7 +1,6 @@
 // Tokens that are numbers: registers, decimal and hexadecimal numbers, signed numbers and doubles. Each answers the bits of the token's
 // value, or what is wrong with the token.
-ghost use Rattle.std.specs.Prelude.{◌≡◌, eqb};
-ghost use Rattle.lists.specs.Choice.{either};
+ghost use Rattle.std.specs.Prelude.{◌≡◌};
 ghost use Rattle.answers.specs.declared.refusal.OperandFault.TheVariants as fault;
 ghost use Rattle.spec_numbers.specs.Parse.{parse_i32};
 ghost use Rattle.spec_numbers.specs.Double.{read_double};
@@ -13,19 +12,14 @@ use hasm_read::hex_prefix::has_hex_prefix;
 use numbers::parse::{parse_hex, parse_i32, parse_u32};
 use numbers::read_double::read_double;
 
-fn is_register_letter(b: u8) -> bool
-    ensures { result ≡ either (eqb b 114) (eqb b 82) }
-{
-    b == 114 || b == 82
-}
-
+#[tactic(auto, using(crate::proofs::TokenLaws::number_answer), unfolding(spec_hasm::specs::Token::register_value))]
 pub fn register_value(t: &[u8]) -> Result<u64, OperandFault>
     ensures { result ≡ token_answer (register_value t.now) }
 {
-    if t.len() == 0 || !is_register_letter(t[0]) {
-        return Err(OperandFault::Register);
+    match t {
+        [b'r' | b'R', digits @ ..] => parse_u32(digits).ok_or(OperandFault::Register),
+        _ => Err(OperandFault::Register),
     }
-    parse_u32(&t[1..]).ok_or(OperandFault::Register)
 }
 
 pub fn unsigned_value(t: &[u8]) -> Result<u64, OperandFault>

@@ -4,7 +4,7 @@ ghost use Rattle.lists.specs.Scan.{all};
 ghost use Rattle.answers.specs.declared.refusal.OperandFault.TheVariants as fault;
 ghost use Rattle.spec_strings.specs.Escape.{unescape};
 ghost use Rattle.spec_strings.specs.Table.{lookup};
-ghost use Rattle.spec_hasm.specs.Token.{found_or, is_quoted, string_value};
+ghost use Rattle.spec_hasm.specs.Token.{found_or, string_value};
 ghost use Rattle.hasm_tokens.specs.Values.{token_answer};
 ghost use Rattle.hasm_tokens.specs.TextValues.{is_literal, meant_in, work_after};
 
@@ -52,24 +52,15 @@ fn quoted_value(inside: &[u8], texts: TextIndex<'_>, work: &mut [u8]) -> Result<
     id_of(texts, &work[..n])
 }
 
-// Whether a quote ends a token that a quote opens.
-fn is_quoted(t: &[u8]) -> bool
-    ensures { result ≡ is_quoted t.now }
-{
-    2 <= t.len() && t[t.len() - 1] == 34
-}
-
 // The value of a string's token. What a text with a backslash means is left at the front of `work`.
 pub fn string_value(t: &[u8], texts: TextIndex<'_>, work: &mut [u8]) -> Result<u64, OperandFault>
     requires { length t.now ≤ length work.old }
     ensures value { result ≡ token_answer (string_value texts.entry.strings.bytes.now texts.entry.strings.ends.now t.now) }
     ensures work_after { work.new ≡ work_after t.now work.old }
 {
-    if t.len() == 0 || t[0] != 34 {
-        return unsigned_value(t);
+    match t {
+        [b'"', inside @ .., b'"'] => quoted_value(inside, texts, work),
+        [b'"', ..] => Err(OperandFault::Quotes),
+        _ => unsigned_value(t),
     }
-    if !is_quoted(t) {
-        return Err(OperandFault::Quotes);
-    }
-    quoted_value(&t[1..t.len() - 1], texts, work)
 }

@@ -72,9 +72,6 @@ ordered bytes ends r l = record {
       omega (arith, l, rw z at (to_last ends r (length ends - 1 - i) i (omega arith)));
 }
 
-pub none_ordered : (bytes ends : List ℕ) → length ends ≡ 0 → InOrder bytes ends
-none_ordered bytes ends e = record { rising = λ i h. absurd (omega (arith, e)); inside = λ i h. absurd (omega (arith, e)) }
-
 -- one pair of ends more, the first of n that are left
 pub one_pair : (ends : List ℕ) (n n' : ℕ) (rising : Bool) (before end : ℕ) → (rising ≡ true → (j : ℕ) → j + n < length ends → get_or ends j 0 ≤ get_or ends (suc j) 0)
     → n' + 1 ≡ n → n ≤ length ends → before ≡ get_or ends (length ends - n + 0) 0 → end ≡ get_or ends (length ends - n + 1) 0

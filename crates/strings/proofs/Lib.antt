@@ -1,5 +1,4 @@
 pub mod AsciiLaws
-pub mod Entries
 pub mod EscapeTurns
 pub mod BareLaws
 pub mod UnescapeTurns

@@ -1,15 +1,12 @@
-use Rattle.hasm_tokens.proofs.TokenLaws.{register_none, register_not, register_is}
-use Rattle.hasm_tokens.specs.Values.{token_answer}
-use mathlib.Core.Path.{ap, sym, ◌∙◌}
+use Rattle.std.proofs.Common.{◌≡◌, get_or, eqb, true, arith}
+use Rattle.lists.specs.Choice.{either}
+use Rattle.lists.proofs.Tests.{by_eqb}
+use Rattle.hasm_tokens.proofs.TokenLaws.{register_is}
 use Rattle.hasm_tokens.proofs.number_token.register_value.Goals as goal
-use Rattle.hasm_tokens.proofs.number_token.register_value.Goals.{then-t-eq0-via-then-t-eq0, then-t-eq0-via-else-t-eq0+then-not-is_register_letter}
 
-pub returns-then-t-eq0 : goal.returns-then-t-eq0
-returns-then-t-eq0 c =
-    sym (ap token_answer (elim c.then-t-eq0.branch [
-      | then-t-eq0-via-then-t-eq0 w ↦ register_none c.args.t.now w.if-t-eq0.true
-      | then-t-eq0-via-else-t-eq0+then-not-is_register_letter w ↦ register_not c.args.t.now (sym w.is_register_letter.ensures ∙ w.if-not-is_register_letter.true)
-    ]))
-
-pub returns : goal.returns
-returns c = register_is c.args.t.now (sym c.is_register_letter.ensures ∙ c.if-not-is_register_letter.false) c.parse_u32.ensures c.ok_or.ensures.value
+pub returns-in-114 : goal.returns-in-114
+returns-in-114 c =
+    let t = c.args.t.now in
+    let mark : either (eqb (get_or t 0 0) 114) (eqb (get_or t 0 0) 82) ≡ true =
+    by_eqb (get_or t 0 0) 114 (λ e. rw e) (λ n. let e : get_or t 0 0 ≡ 82 = omega (arith, n) in rw e) in
+    register_is t mark c.parse_u32.ensures c.ok_or.ensures.value

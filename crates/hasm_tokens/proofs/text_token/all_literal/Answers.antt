@@ -15,4 +15,4 @@ unfolding agree_below in_class
 literal-class = refl
 
 pub returns : goal.returns
-returns c = c.all_in.ensures ∙ all_same class is_literal literal-class c.args.s.now (λ i. (c.shared_slice_known-1.given i).fits)
+returns c = c.all_in.ensures ∙ all_same class is_literal literal-class c.args.s.now (λ i. (c.type_inv.s i).fits)

@@ -102,12 +102,8 @@ impl<'a> Instruction<'a> {
         ensures { out.new ≡ paste out.old k (record_of self.now.row self.now.body.now self.now.at) 20 }
     {
         put_pair(out, k, self.at as u64, wide_byte(self.body[self.at]));
-        put_pair(
-            out,
-            k + 2,
-            wide_byte(self.plan[LENGTH]),
-            wide_byte(self.plan[COUNT]),
-        );
+        let plan = self.plan;
+        put_pair(out, k + 2, wide_byte(plan[LENGTH]), wide_byte(plan[COUNT]));
         self.put_operands(out, k + 4);
     }
 }

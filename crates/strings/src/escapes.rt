@@ -22,7 +22,7 @@ fn put_unicode(out: &mut [u8], at: usize, c: u32) -> usize
     }
     let a = put_bytes(out, at, b"\\u{");
     let b = put_hex_upper(out, a, c as u64);
-    put_byte(out, b, 125)
+    put_byte(out, b, b'}')
 }
 
 // What stands behind the backslash for a character that has a short escape.
@@ -31,12 +31,12 @@ fn letter_of(c: u32) -> Option<u8>
     ensures { escape c ≡ short_or result (pick (within 32 126 c) (c ∷ []) (unicode c)) }
 {
     match c {
-        34 => Some(34),
-        92 => Some(92),
-        10 => Some(110),
-        13 => Some(114),
-        9 => Some(116),
-        0 => Some(48),
+        34 => Some(b'"'),
+        92 => Some(b'\\'),
+        10 => Some(b'n'),
+        13 => Some(b'r'),
+        9 => Some(b't'),
+        0 => Some(b'0'),
         _ => None,
     }
 }
@@ -57,7 +57,7 @@ pub fn put_escaped(out: &mut [u8], at: usize, c: u32) -> usize
     let Some(letter) = letter_of(c) else {
         return put_shown(out, at, c);
     };
-    let a = put_byte(out, at, 92);
+    let a = put_byte(out, at, b'\\');
     put_byte(out, a, letter)
 }
 
@@ -146,7 +146,7 @@ pub fn put_escaped_text(out: &mut [u8], at: usize, s: &[u8]) -> usize
 pub fn put_quoted(out: &mut [u8], at: usize, s: &[u8]) -> usize
     ensures { Put out.old at (quoted s.now) out.new result }
 {
-    let a = put_byte(out, at, 34);
+    let a = put_byte(out, at, b'"');
     let b = put_escaped_text(out, a, s);
-    put_byte(out, b, 34)
+    put_byte(out, b, b'"')
 }

@@ -46,10 +46,7 @@ impl<'a> StringTable<'a> {
     pub fn part(self, start: usize, end: usize) -> &'a [u8]
         ensures { result.now ≡ part self.entry.bytes.now start (end - start) }
     {
-        if end < start {
-            return slices::part::part_of(self.bytes, start, 0);
-        }
-        slices::part::part_of(self.bytes, start, end - start)
+        slices::part::part_of(self.bytes, start, end.saturating_sub(start))
     }
 
     // Whether an entry is in order: refusal 17.
@@ -102,12 +99,11 @@ impl<'a> StringTable<'a> {
     pub fn string_at(self, id: usize) -> Option<Entry>
         ensures { result ≡ entry_of self.entry.ends.now id }
     {
-        if self.ends.len() <= id {
-            return None;
-        }
+        let &end = self.ends.get(id)?;
+        let start = self.start_of(id);
         Some(Entry {
-            start: self.start_of(id),
-            end: wide(self.ends[id]),
+            start,
+            end: wide(end),
         })
     }
 

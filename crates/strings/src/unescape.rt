@@ -11,9 +11,9 @@ fn meant_by(b: u8) -> u8
     ensures { result ≡ meant b }
 {
     match b {
-        110 => 10,
-        116 => 9,
-        114 => 13,
+        b'n' => b'\n',
+        b't' => b'\t',
+        b'r' => b'\r',
         _ => b,
     }
 }
@@ -25,7 +25,7 @@ fn put_read(out: &mut [u8], at: usize, slash: bool, b: u8) -> usize
     if slash {
         return put_byte(out, at, meant_by(b));
     }
-    if b == 92 {
+    if b == b'\\' {
         return at;
     }
     put_byte(out, at, b)
@@ -34,10 +34,7 @@ fn put_read(out: &mut [u8], at: usize, slash: bool, b: u8) -> usize
 fn slash_after(slash: bool, b: u8) -> bool
     ensures { result ≡ slash_after slash b }
 {
-    if slash {
-        return false;
-    }
-    b == 92
+    !slash && b == b'\\'
 }
 
 pub fn put_unescaped(out: &mut [u8], at: usize, s: &[u8]) -> usize

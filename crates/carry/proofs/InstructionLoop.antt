@@ -60,7 +60,7 @@ unfolding le_bytes
 one_byte b h = let e : b % 256 ≡ b = omega arith in rw e
 
 -- a name that is known is not missing, and counts as many operands
-pub is_known : (t : State) → (t ≡ Known) ⊎ (t ≡ Copied) → (t ≡ Missing → ⊥) × (t ≡ OtherCount → ⊥)
+is_known : (t : State) → (t ≡ Known) ⊎ (t ≡ Copied) → (t ≡ Missing → ⊥) × (t ≡ OtherCount → ⊥)
 is_known t (inl e) = ((λ z. let y : Known ≡ Missing = sym e ∙ z in cc y), (λ z. let y : Known ≡ OtherCount = sym e ∙ z in cc y))
 is_known t (inr e) = ((λ z. let y : Copied ≡ Missing = sym e ∙ z in cc y), (λ z. let y : Copied ≡ OtherCount = sym e ∙ z in cc y))
 
@@ -369,7 +369,7 @@ module _ (types types₂ : List (List ℕ)) (rows : List OpcodeRow) (last : ℕ)
         new_size : row.new_length ≡ 1 + total_width row'
         new_size = new_length ∙ ap length_of new_is
 
-        pub here : Here
+        here : Here
         here = record {
           known = g.opcodes op u instruction.small;
           room = instruction.room;
@@ -379,7 +379,7 @@ module _ (types types₂ : List (List ℕ)) (rows : List OpcodeRow) (last : ℕ)
         }
 
         -- its row, and the plans of its operands
-        abbrev pub planned_here : (plans : List (List (Option Plan))) → Plans types types₂ rows last plans → Instruction row (get_or plans op []) s at
+        abbrev planned_here : (plans : List (List (Option Plan))) → Plans types types₂ rows last plans → Instruction row (get_or plans op []) s at
         planned_here plans p = record {
           planning = record { row = old; row' = row'; planned = p op u instruction.small; room = instruction.room };
           state = λ z. rw (old_is, new_is) at (state_copied (old_row g.from record_here) (new_row g.from g.into record_here) name_found (sym state_is ∙ z));
@@ -478,13 +478,13 @@ module _ (types types₂ : List (List ℕ)) (rows : List OpcodeRow) (last : ℕ)
               }
 
       -- 4: the second sheet lacks its name
-      pub unknown : row.state ≡ Missing → AllPromised out (Err (UnknownName i))
+      unknown : row.state ≡ Missing → AllPromised out (Err (UnknownName i))
       unknown e g =
           refused_here g (UnknownName i)
           (λ cs rest. first_missing (carrying_in g) i _ _ cs rest (state_missing (old_row g.from (record_here g)) (new_row g.from g.into (record_here g)) (name_found g) (sym (state_is g) ∙ e))) out
 
       -- 5: it has the name with another number of operands
-      pub other_count : row.state ≡ OtherCount → AllPromised out (Err (OperandCount i))
+      other_count : row.state ≡ OtherCount → AllPromised out (Err (OperandCount i))
       other_count e g =
           refused_here g (OperandCount i)
           (λ cs rest. first_other (carrying_in g) i _ _ cs rest
@@ -494,10 +494,10 @@ module _ (types types₂ : List (List ℕ)) (rows : List OpcodeRow) (last : ℕ)
       -- it was carried
       module _ (e : (row.state ≡ Missing → ⊥) × (row.state ≡ OtherCount → ⊥)) (out' : List ℕ) (r : Result Operands OperandRefusal) (said : Promised (row.opcode) old row' s at new map ids block n out' r) where
         -- an operand that cannot be carried
-        pub bad : (f : OperandFault) (q : ℕ) → r ≡ Err (record { fault = f; operand = q }) → AllPromised out (Err (BadOperand f i q))
+        bad : (f : OperandFault) (q : ℕ) → r ≡ Err (record { fault = f; operand = q }) → AllPromised out (Err (BadOperand f i q))
         bad f q v g = let c = instruction_said g e out' (Err (record { fault = f; operand = q })) (rw v at said) in bad_here g e c.block₁ c.b out' f q c.operands
 
-        pub turn : Ready types types₂ rows last s map ids → n ≤ instruction_start → length out' ≡ length block → (k' : ℕ) (q : Option ℕ) → r ≡ Ok (record { next = k'; far = q }) → (first' : Option Far) → first' ≡ keep_first first i q
+        turn : Ready types types₂ rows last s map ids → n ≤ instruction_start → length out' ≡ length block → (k' : ℕ) (q : Option ℕ) → r ≡ Ok (record { next = k'; far = q }) → (first' : Option Far) → first' ≡ keep_first first i q
             → Going out out' k k' (new + row.new_length) (i + 1) first' (at + row.length)
         turn g₀ few l k' q v first' w = record {
           below = omega (arith, (here g₀).some, going.below);
@@ -508,3 +508,29 @@ module _ (types types₂ : List (List ℕ)) (rows : List OpcodeRow) (last : ℕ)
           held = let c = instruction_said g₀ e out' (Ok (record { next = k'; far = q })) (rw v at said) in omega (arith, few, c.opcode_put.next, next_most g₀ e c.block₁ c.b out' k' q c.operands);
           midway = λ g. let c = instruction_said g e out' (Ok (record { next = k'; far = q })) (rw v at said) in rw w (midway_next g e c.block₁ c.b out' k' q c.opcode_put c.operands few);
         }
+
+-- a turn of the loop, once room was made for an instruction
+module _ {types types₂ : List (List ℕ)} {rows : List OpcodeRow} {last : ℕ} {s map ids out₀ out block : List ℕ} {k n new i : ℕ} {first : Option Far} {at : ℕ} (going : Going types types₂ rows last s map ids out₀ out block k n new i first at)
+    {out' : List ℕ} {r : Gathered} (w : RoomMade instruction_start block n out k out' r) (h : at < length s) (u : get_or s at 0 < 256) where
+  abbrev here_row : OpcodeRow
+  here_row = get_or rows (get_or s at 0) empty
+
+  pub small_here : Ready types types₂ rows last s map ids → (1 ≤ here_row.length) × (at + here_row.length ≤ length s) × (here_row.new_length ≤ 65)
+  small_here g = let x = here _ _ _ _ _ _ _ _ _ _ _ _ _ _ _ _ (roomy _ _ _ _ _ _ _ _ _ _ _ _ _ _ _ _ going w).1 h u g in (x.some, x.next, x.most)
+
+  abbrev pub plans_here : Ready types types₂ rows last s map ids → (plans : List (List (Option Plan))) → Plans types types₂ rows last plans → Instruction here_row (get_or plans (get_or s at 0) []) s at
+  plans_here g plans p = planned_here _ _ _ _ _ _ _ _ _ _ _ _ _ _ _ _ (roomy _ _ _ _ _ _ _ _ _ _ _ _ _ _ _ _ going w).1 h u g plans p
+
+  pub name_unknown : here_row.state ≡ Missing → AllPromised types types₂ rows last s map ids out₀ out' (Err (UnknownName i))
+  name_unknown e = unknown _ _ _ _ _ _ _ _ _ _ _ _ _ _ _ _ (roomy _ _ _ _ _ _ _ _ _ _ _ _ _ _ _ _ going w).1 h u e
+
+  pub count_differs : here_row.state ≡ OtherCount → AllPromised types types₂ rows last s map ids out₀ out' (Err (OperandCount i))
+  count_differs e = other_count _ _ _ _ _ _ _ _ _ _ _ _ _ _ _ _ (roomy _ _ _ _ _ _ _ _ _ _ _ _ _ _ _ _ going w).1 h u e
+
+  module _ (e : (here_row.state ≡ Known) ⊎ (here_row.state ≡ Copied)) {block' : List ℕ} {answer : Result Operands OperandRefusal} (said : Promised here_row.opcode (get_or types (get_or s at 0) []) (get_or types₂ here_row.opcode []) s at new map ids block r.kept block' answer) where
+    pub operand_refused : {f : OperandFault} {q : ℕ} → answer ≡ Err (record { fault = f; operand = q }) → AllPromised types types₂ rows last s map ids out₀ out' (Err (BadOperand f i q))
+    operand_refused v = bad _ _ _ _ _ _ _ _ _ _ _ _ _ _ _ _ (roomy _ _ _ _ _ _ _ _ _ _ _ _ _ _ _ _ going w).1 h u (is_known _ e) _ _ said _ _ v
+
+    pub next_turn : Ready types types₂ rows last s map ids → length block' ≡ length block → {k' : ℕ} {q : Option ℕ} → answer ≡ Ok (record { next = k'; far = q }) → {first' : Option Far} → first' ≡ keep_first first i q
+        → Going types types₂ rows last s map ids out₀ out' block' r.next k' (new + here_row.new_length) (i + 1) first' (at + here_row.length)
+    next_turn g l v z = let m = roomy _ _ _ _ _ _ _ _ _ _ _ _ _ _ _ _ going w in turn _ _ _ _ _ _ _ _ _ _ _ _ _ _ _ _ m.1 h u (is_known _ e) _ _ said g m.0 l _ _ v _ z

@@ -1,3 +1,4 @@
+pub mod Filling
 pub mod AnswerLaws
 pub mod OpcodeLaws
 pub mod IdLaws

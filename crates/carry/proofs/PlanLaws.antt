@@ -3,12 +3,12 @@ use mathlib.Core.Path.{◌≡◌, refl, ap, sym, ◌∙◌}
 use mathlib.Core.Bool.{true, false, not}
 use mathlib.Core.Logic.◌⊎◌.{inl, inr}
 use mathlib.Core.List.{List, [], ◌∷◌}
-use Prim.Native.Nat.{ℕ, zero, suc, ◌+◌, ◌≤◌, ◌<◌}
+use Prim.Native.Nat.{ℕ, zero, suc, ◌+◌, ◌≤◌}
 use native.Mathlib.Omega.{arith}
 use Rattle.std.specs.Prelude.{Option, None, Some}
 use lib.Dec.{eqb}
-use lib.ListN.{length, drop, set, get_or, length-set}
-use lib.Seq.{get_or-drop, get_or-set_same, get_or-set_other, ext_get_or}
+use lib.ListN.{length, drop, get_or}
+use lib.Seq.{get_or-drop, ext_get_or}
 use borrow.Author.Tests.{eq-eqb, ne_eqb}
 use Rattle.lists.specs.Choice.{both, within}
 use Rattle.lists.proofs.Tests.{by_test, by_eqb, both_right}
@@ -17,6 +17,7 @@ use Rattle.spec_sheet.proofs.TypeLaws.{by_address}
 use Rattle.carry.specs.Plans.{action_of, is_kept, planned, plan_of, plan_row, RowPlanned}
 use Rattle.carry.specs.EmptyRow.{empty}
 use Rattle.carry.specs.NewBits.{AddrWidth}
+use Rattle.carry.proofs.Filling.{Filled}
 use Rattle.carry.specs.declared.opcodes.OpcodeRow.{OpcodeRow}
 use Rattle.carry.specs.declared.plans.Plan.{Plan}
 use Rattle.carry.specs.declared.plans.Action.{Action}
@@ -106,47 +107,18 @@ plan_at [] row' j = refl
 plan_at (c ∷ cs) row' zero = refl
 plan_at (c ∷ cs) row' (suc j) = let z : 1 + j ≡ suc j = omega arith in plan_at cs (drop 1 row') j ∙ ap (plan_of (get_or cs j 0)) (get_or-drop 1 row' j 0 ∙ ap (λ (n : ℕ). get_or row' n 0) z)
 
--- the first j plans of a row are made
-pub record PlansMade (row row' : List ℕ) (plans : List (Option Plan)) (j : ℕ) : Type 0 where
-  pub size : length plans ≡ 8
-  made : (k : ℕ) → k < j → get_or plans k None ≡ plan_of (get_or row k 0) (get_or row' k 0)
+-- the plan of operand j
+abbrev pub PlanMade : List ℕ → List ℕ → ℕ → Option Plan → Type 0
+PlanMade row row' j plan = plan ≡ plan_of (get_or row j 0) (get_or row' j 0)
 
-module _ (row row' : List ℕ) (plans : List (Option Plan)) where
-  pub none_made : length plans ≡ 8 → PlansMade row row' plans 0
-  none_made l = record { size = l; made = λ k h. absurd (omega arith) }
+-- eight are all
+pub all_made : (row row' : List ℕ) (plans : List (Option Plan)) (j : ℕ) → Filled None (PlanMade row row') 8 plans j → 8 ≤ j → length row ≡ 8 → length row' ≡ 8 → RowPlanned row row' plans
+all_made row row' plans j g h l l' = record {
+  are = ext_get_or None plans (plan_row row row') (g.many ∙ sym (plans_length row row' ∙ l)) (λ k b. g.made k (omega (arith, g.many)) ∙ sym (plan_at row row' k));
+  size = l;
+  size' = l';
+}
 
-  module _ (j : ℕ) (g : PlansMade row row' plans j) where
-    pub one_made : (v : Option Plan) → j < 8 → v ≡ plan_of (get_or row j 0) (get_or row' j 0) → PlansMade row row' (set plans j v) (j + 1)
-    one_made v h e = record {
-      size = length-set plans j v ∙ g.size;
-      made = λ k l.
-          by_eqb k j
-          (λ q. rw (q, get_or-set_same plans j v None (omega (arith, g.size))) e)
-          (λ q. get_or-set_other plans j k v None q ∙ g.made k (omega (arith, q)));
-    }
-
-    pub all_made : 8 ≤ j → length row ≡ 8 → length row' ≡ 8 → RowPlanned row row' plans
-    all_made h l l' = record {
-      are = ext_get_or None plans (plan_row row row') (g.size ∙ sym (plans_length row row' ∙ l)) (λ k b. g.made k (omega (arith, g.size)) ∙ sym (plan_at row row' k));
-      size = l;
-      size' = l';
-    }
-
--- the plans of the first n opcodes are made
-pub record TableMade (types types₂ : List (List ℕ)) (rows : List OpcodeRow) (plans : List (List (Option Plan))) (n : ℕ) : Type 0 where
-  pub size : length plans ≡ 256
-  pub made : (op : ℕ) → op < n → RowPlanned (get_or types op []) (get_or types₂ (get_or rows op empty).opcode []) (get_or plans op [])
-
-module _ (types types₂ : List (List ℕ)) (rows : List OpcodeRow) (plans : List (List (Option Plan))) where
-  pub no_table : length plans ≡ 256 → TableMade types types₂ rows plans 0
-  no_table l = record { size = l; made = λ op h. absurd (omega arith) }
-
-  pub one_row : (n : ℕ) (row : List (Option Plan)) → TableMade types types₂ rows plans n → n < 256 → RowPlanned (get_or types n []) (get_or types₂ (get_or rows n empty).opcode []) row
-      → TableMade types types₂ rows (set plans n row) (n + 1)
-  one_row n row g h p = record {
-    size = length-set plans n row ∙ g.size;
-    made = λ op l.
-        by_eqb op n
-        (λ q. rw (q, get_or-set_same plans n row [] (omega (arith, g.size))) p)
-        (λ q. rw (get_or-set_other plans n op row [] q) (g.made op (omega (arith, q))));
-  }
+-- the plans of an opcode
+abbrev pub OpcodePlanned : List (List ℕ) → List (List ℕ) → List OpcodeRow → ℕ → List (Option Plan) → Type 0
+OpcodePlanned types types₂ rows op plans = RowPlanned (get_or types op []) (get_or types₂ (get_or rows op empty).opcode []) plans

@@ -36,7 +36,8 @@ pub fn check_tables(
     Ok(())
 }
 
-// Reads both sheets into their tables, which are empty: the largest opcode of the first; or 1.
+// Reads both sheets into their tables, which are empty: the largest opcode of the first; or 1. The tables are parameters one by one,
+// since arrays of type codes stand by value outside any struct (document 01's form).
 pub(crate) fn read_sheets(
     sheet: &[u8],
     sheet2: &[u8],

@@ -131,7 +131,7 @@ fn ended(k: usize, first: Option<Far>) -> Result<usize, Refusal>
     }
 }
 
-// Instructions are gathered in a block, so that they are written by words.
+// Instructions are gathered in a block, so that they are written by words. Its length stands beside it: memory is fixed, no Vec holds it.
 const BLOCK: usize = 2048;
 
 // Where a block may be and still have room for an instruction of 65 bytes and a word.

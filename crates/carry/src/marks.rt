@@ -1,5 +1,5 @@
 // What stands for the places of a body and for the ids of the first table, in lent words: 1 more than the new place or id, 0 for
-// none. An Option in a word would take two.
+// none. Memory is fixed, and an Option of a word would take two.
 ghost use Rattle.std.specs.Prelude.{◌≡◌, ◌+◌, ◌<◌, ◌^◌, IfSome};
 ghost use Rattle.carry.specs.Marks.{mark_of, marked};
 

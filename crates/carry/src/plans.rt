@@ -8,7 +8,7 @@ use crate::opcodes::OpcodeRow;
 use sheet::family::Family;
 
 // What is to be done with an operand.
-#[derive(Clone, Copy, PartialEq, Eq)]
+#[derive(Clone, Copy)]
 pub enum Action {
     Keeps, // its bytes stay
     Number, // a register or number of another width, which has to fit

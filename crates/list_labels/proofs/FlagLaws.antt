@@ -44,26 +44,18 @@ module _ (k : List ℕ) (i x : ℕ) where
       go true = refl
       go false = refl
 
--- whether an offset is a label, by its mark
-module _ (v : ℕ) (p : Bool) (e : v ≡ pick p 1 0) where
-  pub was_there : (v ≡ 0 → ⊥) → p ≡ true
-  was_there h = by_test p (λ q. q) (λ q. absurd (h (e ∙ rw q)))
-
-  pub was_not : v ≡ 0 → p ≡ false
-  was_not h = by_test p (λ q. absurd (let z : ◌≡◌ {A = ℕ} 1 0 = sym (e ∙ rw q) ∙ h in omega arith)) (λ q. q)
-
 -- the flags
 module _ (k : List ℕ) (n : Notes) (x : ℕ) (m : Flagged k n.flags) where
-  marked_new : x < length n.flags → Flagged (k ++ (x ∷ [])) (set n.flags x 1)
+  marked_new : x < length n.flags → Flagged (k ++ (x ∷ [])) (set n.flags x true)
   marked_new h i l =
       by_eqb i x
-      (λ e. rw (more_here k i x e, e) (get_or-set_same n.flags x 1 0 h))
-      (λ e. rw (more_other k i x e) (get_or-set_other n.flags x i 1 0 e ∙ m i (omega (arith, l, length-set n.flags x 1))))
+      (λ e. rw (more_here k i x e, e) (get_or-set_same n.flags x true false h))
+      (λ e. rw (more_other k i x e) (get_or-set_other n.flags x i true false e ∙ m i (omega (arith, l, length-set n.flags x true))))
 
-  marked_seen : (get_or n.flags x 0 ≡ 0 → ⊥) → x < length n.flags → Flagged (k ++ (x ∷ [])) n.flags
+  marked_seen : get_or n.flags x false ≡ true → x < length n.flags → Flagged (k ++ (x ∷ [])) n.flags
   marked_seen s h i l =
       by_eqb i x
-      (λ e. rw (more_here k i x e, e) (m x h ∙ rw (was_there (get_or n.flags x 0) (among x k) (m x h) s)))
+      (λ e. rw (more_here k i x e, e) s)
       (λ e. rw (more_other k i x e) (m i l))
 
   marked_far : length n.flags ≤ x → Flagged (k ++ (x ∷ [])) n.flags
@@ -97,22 +89,22 @@ module _ (room : ℕ) (k : List ℕ) (n : Notes) (x : ℕ) (g : Near room k n) w
   more : x < room → different (below room (k ++ (x ∷ []))) ≡ pick (among x k) (different (below room k)) (suc (different (below room k)))
   more h = ap different (below_near h) ∙ (different_more (below room k) x ∙ rw (among_below room x k h))
 
-  near_new : x < length n.flags → get_or n.flags x 0 ≡ 0 → Near room (k ++ (x ∷ [])) (with_flag n x)
+  near_new : x < length n.flags → get_or n.flags x false ≡ false → Near room (k ++ (x ∷ [])) (with_flag n x)
   near_new h e =
       let b : x < room = omega (arith, g.size) in
       record {
-        size = length-set n.flags x 1 ∙ g.size;
+        size = length-set n.flags x true ∙ g.size;
         marked = marked_new k n x g.marked h;
-        count = rw (more b, was_not (get_or n.flags x 0) (among x k) (g.marked x h) e) (ap suc g.count);
+        count = rw (more b, sym (g.marked x h) ∙ e) (ap suc g.count);
       }
 
-  near_seen : x < length n.flags → (get_or n.flags x 0 ≡ 0 → ⊥) → Near room (k ++ (x ∷ [])) n
+  near_seen : x < length n.flags → get_or n.flags x false ≡ true → Near room (k ++ (x ∷ [])) n
   near_seen h e =
       let b : x < room = omega (arith, g.size) in
       record {
         size = g.size;
         marked = marked_seen k n x g.marked e h;
-        count = rw (more b, was_there (get_or n.flags x 0) (among x k) (g.marked x h) e) g.count;
+        count = rw (more b, sym (g.marked x h) ∙ e) g.count;
       }
 
   near_past : length n.flags ≤ x → n.near ≡ different (below room (k ++ (x ∷ [])))
@@ -158,10 +150,10 @@ module _ (low high : ℕ) (k : List ℕ) (n : Notes) (x : ℕ) (g : Far low high
   far_out : within low high (x ∷ []) ≡ [] → Far low high (k ++ (x ∷ [])) n
   far_out e = record { is_low = g.is_low; is_high = g.is_high; past = g.past; count = rw (one_out e) g.count; kept = λ f. rw (one_out e) (g.kept f) }
 
-  far_new : x < length n.flags → get_or n.flags x 0 ≡ 0 → Far low high (k ++ (x ∷ [])) (with_flag n x)
+  far_new : x < length n.flags → get_or n.flags x false ≡ false → Far low high (k ++ (x ∷ [])) (with_flag n x)
   far_new h e =
       let o = one_out (front_out (omega (arith, g.past, h))) in
-      record { is_low = g.is_low; is_high = g.is_high; past = omega (arith, length-set n.flags x 1, g.past); count = rw o g.count; kept = λ f. rw o (g.kept f) }
+      record { is_low = g.is_low; is_high = g.is_high; past = omega (arith, length-set n.flags x true, g.past); count = rw o g.count; kept = λ f. rw o (g.kept f) }
 
   far_more : length n.flags ≤ x → n.low ≤ x → x < n.high → Far low high (k ++ (x ∷ [])) (with_far n x)
   far_more h l q =
@@ -186,21 +178,21 @@ module _ (low high : ℕ) (k : List ℕ) (n : Notes) (x : ℕ) (g : Far low high
       (λ h q. far_out (past_out (omega (arith, g.is_high))))
 
 -- before a walk
-pub near_start : (flags stored : List ℕ) (low high : ℕ) → flags ≡ replicate (length flags) 0 → Near (length flags) [] (unnoted flags stored low high)
+pub near_start : (flags : List Bool) (stored : List ℕ) (low high : ℕ) → flags ≡ replicate (length flags) false → Near (length flags) [] (unnoted flags stored low high)
 unfolding below among different
 near_start flags stored low high e = record {
   size = refl;
-  marked = λ i l. ap (λ (m : List ℕ). get_or m i 0) e ∙ get_or-replicate (length flags) i 0 0 l;
+  marked = λ i l. ap (λ (m : List Bool). get_or m i false) e ∙ get_or-replicate (length flags) i false false l;
   count = refl;
 }
 
-pub far_start : (flags stored : List ℕ) (low high : ℕ) → length flags ≤ low → Far low high [] (unnoted flags stored low high)
+pub far_start : (flags : List Bool) (stored : List ℕ) (low high : ℕ) → length flags ≤ low → Far low high [] (unnoted flags stored low high)
 unfolding below above
 far_start flags stored low high h = record { is_low = refl; is_high = refl; past = h; count = refl; kept = λ f. refl }
 
 -- and behind it
-module _ (flags stored l : List ℕ) (low high : ℕ) where
-  pub near_all : flags ≡ replicate (length flags) 0 → Near (length flags) l (note_all (unnoted flags stored low high) l)
+module _ (flags : List Bool) (stored l : List ℕ) (low high : ℕ) where
+  pub near_all : flags ≡ replicate (length flags) false → Near (length flags) l (note_all (unnoted flags stored low high) l)
   near_all e = all_steps (Near (length flags)) (near_step (length flags)) [] (unnoted flags stored low high) l (near_start flags stored low high e)
 
   pub far_all : length flags ≤ low → Far low high l (note_all (unnoted flags stored low high) l)

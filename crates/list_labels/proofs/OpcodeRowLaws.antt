@@ -7,7 +7,7 @@ use native.Mathlib.Numerals.{add-one}
 use native.Mathlib.Omega.{arith}
 use borrow.Author.Tests.{eq-eqb, ne_eqb, eqb-true}
 use lib.Dec.{eqb}
-use lib.ListN.{length, get_or, drop, drop_of_length-le}
+use lib.ListN.{length, get_or, set, drop, length-set}
 use lib.Seq.{drop-cons}
 use Rattle.lists.specs.Choice.{pick, both, either}
 use Rattle.lists.proofs.Tests.{by_eqb, both_left, both_right, not-true}
@@ -24,40 +24,39 @@ use Rattle.spec_body.proofs.DecodeLaws.Decoding.{ended, more}
 use Rattle.spec_inputs.specs.Context.{Context, name_of, is_jump}
 use Rattle.spec_listing.specs.Labels.{ends_flow, targets, labels_of, label_offsets}
 use Rattle.list_labels.specs.FlowNames.{name_shown}
-use Rattle.list_labels.specs.OpcodeRows.{has_addr, is_short, opcode_row, OpcodeRows, RowsFit, opcodes_of, record_labels, row_labels}
+use Rattle.list_labels.specs.declared.opcode_rows.Jump.TheVariants.{NoTarget, Short, Other}
+use Rattle.list_labels.specs.declared.opcode_rows.OpcodeRow.{OpcodeRow}
+use Rattle.list_labels.specs.OpcodeRows.{has_addr, is_short, targets_by, no_row, opcode_row, OpcodeRows, RowsFit, opcodes_of, record_labels, row_labels}
 use Rattle.list_labels.specs.InstructionNotes.{target_in}
 use Rattle.list_labels.proofs.TargetLaws.{targets_first}
 use Rattle.numbers.proofs.ByteSums.{le_one}
-use Rattle.sheet.proofs.Filled.{Filled}
+use lib.Seq.{get_or-set_same, get_or-set_other}
 
--- the loop over type codes: none of those in front of i is an Addr
-module _ (codes : List ℕ) (i : ℕ) {b : Bool} (g : b ≡ has_addr (drop i codes)) where
-  module _ (h : i < length codes) where
-    here : b ≡ either (eqb (family_of (get_or codes i 0)) 4) (has_addr (drop (i + 1) codes))
-    unfolding has_addr
-    here = g ∙ rw (drop-cons codes i 0 h, add-one i)
+-- the rows of the opcodes below n are made
+pub record Made (sheet : List ℕ) (types infos : List (List ℕ)) (rows : List OpcodeRow) (n : ℕ) : Type 0 where
+  pub size : length rows ≡ 256
+  pub made : (o : ℕ) → o < n → get_or rows o no_row ≡ opcode_row sheet (get_or types o []) (get_or infos o [])
 
-    pub addr_here : family_of (get_or codes i 0) ≡ 4 → b ≡ true
-    addr_here e = here ∙ rw (eq-eqb (family_of (get_or codes i 0)) 4 e)
+module _ {sheet : List ℕ} {types infos : List (List ℕ)} {rows : List OpcodeRow} {n : ℕ} (g : Made sheet types infos rows n) where
+  pub one_more : (row : OpcodeRow) → n < 256 → row ≡ opcode_row sheet (get_or types n []) (get_or infos n []) → Made sheet types infos (set rows n row) (n + 1)
+  one_more row h e = record {
+    size = length-set rows n row ∙ g.size;
+    made = λ o l.
+        by_eqb o n
+        (λ q. rw (q, get_or-set_same rows n row no_row (omega (arith, g.size))) e)
+        (λ q. rw (get_or-set_other rows n o row no_row q) (g.made o (omega (arith, q))));
+  }
 
-    pub addr_further : (family_of (get_or codes i 0) ≡ 4 → ⊥) → b ≡ has_addr (drop (i + 1) codes)
-    addr_further e = here ∙ rw (ne_eqb (family_of (get_or codes i 0)) 4 e)
+  -- a table of all rows up to the largest opcode
+  pub rows_made : (last : ℕ) → ((o : ℕ) → o < 256 → o ≤ last → o < n) → OpcodeRows sheet types infos last rows
+  rows_made last h o l k = g.made o (h o l k)
 
-  pub addr_none : length codes ≤ i → b ≡ false
-  unfolding has_addr
-  addr_none h = g ∙ rw (drop_of_length-le codes h)
-
--- a table of all rows up to the largest opcode
-pub rows_made : (sheet : List ℕ) (types infos : List (List ℕ)) (last : ℕ) (rows₀ rows : List (List ℕ)) (n : ℕ)
-    → Filled (λ o row. row ≡ opcode_row sheet (get_or types o []) (get_or infos o [])) rows₀ rows n → ((o : ℕ) → o < 256 → o ≤ last → o < n) → OpcodeRows sheet types infos last rows
-rows_made sheet types infos last rows₀ rows n g h o l k = g.made o (h o l k)
-
-short_kind : (p q : Bool) → ◌≡◌ {A = ℕ} (pick p (pick q 1 2) 0) 1 → q ≡ true
+short_kind : (p q : Bool) → pick p (pick q Short Other) NoTarget ≡ Short → q ≡ true
 short_kind true true e = refl
-short_kind true false e = absurd (omega arith)
-short_kind false q e = absurd (omega arith)
+short_kind true false e = cc e
+short_kind false q e = cc e
 
-pub rows_fit : (sheet : List ℕ) (types infos : List (List ℕ)) (last : ℕ) (rows : List (List ℕ)) → OpcodeRows sheet types infos last rows → RowsFit types last rows
+pub rows_fit : (sheet : List ℕ) (types infos : List (List ℕ)) (last : ℕ) (rows : List OpcodeRow) → OpcodeRows sheet types infos last rows → RowsFit types last rows
 rows_fit sheet types infos last rows h o l k =
     let codes = get_or types o [] in
     record {
@@ -67,7 +66,7 @@ rows_fit sheet types infos last rows h o l k =
 
 -- without an Addr there are no targets
 no_targets : (at : ℕ) (codes pairs : List ℕ) → has_addr codes ≡ false → targets at codes pairs ≡ []
-unfolding has_addr targets
+unfolding targets
 no_targets at [] pairs h = refl
 no_targets at (c ∷ codes) pairs h =
     by_eqb (family_of c) 4
@@ -95,22 +94,15 @@ short_targets at (c ∷ codes) s e h =
     targets_first at c (le (part s (at + 1) (width_of c))) (kind_of c) codes (pairs codes s (at + 1 + width_of c))
     ∙ rw (none, append-nil (target_in at c (le (part s (at + 1) (width_of c)))), q, le_one s (at + 1) (omega (arith, rw q at h)))
 
-one_is : (b : Bool) → eqb (pick b 1 0) 1 ≡ b
-one_is true = refl
-one_is false = refl
-
-no_kind : (p q : Bool) → eqb (pick p (pick q 1 2) 0) 0 ≡ not p
-no_kind true true = refl
-no_kind true false = refl
-no_kind false q = refl
-
-jump_targets : (p q : Bool) (l : List ℕ) → (q ≡ false → l ≡ []) → pick (not (both p q)) [] l ≡ pick p l []
-jump_targets true true l h = refl
-jump_targets true false l h = sym (h refl)
-jump_targets false q l h = refl
+-- what a row says of the targets
+jump_targets : (m p q : Bool) (l : List ℕ) → (p ≡ false → l ≡ []) → targets_by (pick (both m p) (pick q Short Other) NoTarget) l ≡ pick m l []
+jump_targets true true true l h = refl
+jump_targets true true false l h = refl
+jump_targets true false q l h = sym (h refl)
+jump_targets false p q l h = refl
 
 -- a record's labels by its opcode's row are those of the definition
-module _ (e : Context) (last : ℕ) (rows : List (List ℕ)) (g : OpcodeRows e.sheet e.types e.infos last rows) where
+module _ (e : Context) (last : ℕ) (rows : List OpcodeRow) (g : OpcodeRows e.sheet e.types e.infos last rows) where
   same_record : (r : List ℕ) → opcode_of r < 256 → opcode_of r ≤ last → record_labels (opcodes_of e.types rows) r ≡ labels_of e r
   unfolding record_labels labels_of name_of is_jump
   same_record r l k =
@@ -119,9 +111,7 @@ module _ (e : Context) (last : ℕ) (rows : List (List ℕ)) (g : OpcodeRows e.s
       let jump = eqb (jump_mark info) 1 in
       rw (
         g (opcode_of r) l k,
-        one_is (ends_flow (name_shown e.sheet (name_start info) (name_size info))),
-        no_kind (both jump (has_addr codes)) (is_short codes),
-        jump_targets jump (has_addr codes) (targets (offset_of r) codes (pairs_of r)) (no_targets (offset_of r) codes (pairs_of r)),
+        jump_targets jump (has_addr codes) (is_short codes) (targets (offset_of r) codes (pairs_of r)) (no_targets (offset_of r) codes (pairs_of r)),
       )
 
   same_all : (s : List ℕ) {at : ℕ} {rs : List (List ℕ)} → ((i : ℕ) → get_or s i 0 < 256) → Decoding e.types last s at rs → row_labels (opcodes_of e.types rows) rs ≡ label_offsets e rs

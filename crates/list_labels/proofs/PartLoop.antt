@@ -23,10 +23,7 @@ pub start : (b : ℕ) (a spare : List ℕ) → Going b a spare a spare 0 0
 unfolding below above
 start b a spare = record { fewer = omega arith; inside = omega arith; length_a = refl; length_spare = refl; left = refl; low = refl; high = refl }
 
-module _ (b : ℕ) (a₀ spare₀ a spare : List ℕ) (n i : ℕ) (g : Going b a₀ spare₀ a spare n i) (here : i < length a) where
-  h : i < length a₀
-  h = omega (arith, g.length_a)
-
+module _ (b : ℕ) (a₀ spare₀ a spare : List ℕ) (n i : ℕ) (g : Going b a₀ spare₀ a spare n i) (h : i < length a₀) where
   -- the number that is looked at
   pub same_here : get_or a i 0 ≡ get_or a₀ i 0
   same_here =
@@ -84,10 +81,7 @@ module _ (b : ℕ) (a₀ spare₀ a spare : List ℕ) (n i : ℕ) (g : Going b a
   turn_high x e l k p q r = rw (p, q, r) (high_turn x e l (omega (arith, g.length_spare, h)))
 
 -- at the end all are parted
-module _ (b : ℕ) (a₀ spare₀ a spare : List ℕ) (n i : ℕ) (g : Going b a₀ spare₀ a spare n i) (h : length a ≤ i) where
-  all_seen : length a₀ ≤ i
-  all_seen = omega (arith, g.length_a)
-
+module _ (b : ℕ) (a₀ spare₀ a spare : List ℕ) (n i : ℕ) (g : Going b a₀ spare₀ a spare n i) (all_seen : length a₀ ≤ i) where
   pub all_low : take n a ≡ below b a₀
   all_low = g.low ∙ ap (below b) (take_all i a₀ all_seen)
 

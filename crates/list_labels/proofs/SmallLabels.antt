@@ -19,7 +19,10 @@ use Rattle.spec_body.proofs.DecodeLaws.{Decoding, body_stands}
 use Rattle.spec_body.proofs.DecodeLaws.Decoding.{ended, more}
 use Rattle.spec_listing.specs.Operand.{target_of}
 use Rattle.spec_listing.specs.Labels.{targets}
-use Rattle.list_labels.specs.OpcodeRows.{Opcodes, record_labels, row_labels}
+use Rattle.list_labels.specs.OpcodeRows.{Opcodes, record_labels, row_labels, no_row, targets_by}
+use Rattle.list_labels.specs.declared.opcode_rows.Jump.{Jump}
+use Rattle.list_labels.specs.declared.opcode_rows.Jump.TheVariants.{NoTarget, Short, Other}
+use Rattle.list_labels.specs.declared.opcode_rows.OpcodeRow.{OpcodeRow}
 use Rattle.list_labels.specs.InstructionNotes.{labels_in}
 use Rattle.list_labels.specs.Parts.{Between}
 use Rattle.list_labels.specs.Parts.Between.{none, one}
@@ -45,18 +48,23 @@ targets_small at (code ∷ codes) pairs = go (eqb (family_of code) 4) (target_of
         (λ k. rw (le-ltb t (2 ^ 31) k) h)
         (λ k. rw (lt-ltb t (2 ^ 31) k) (one {x = t} (omega arith) k h))
 
-instruction_small : (row codes s : List ℕ) (at : ℕ) → at + length_of codes ≤ 65536 → Small (labels_in row codes s at)
+by_jump : (j : Jump) {l : List ℕ} → Small l → Small (targets_by j l)
+by_jump NoTarget h = none
+by_jump Short h = h
+by_jump Other h = h
+
+instruction_small : (row : OpcodeRow) (codes s : List ℕ) (at : ℕ) → at + length_of codes ≤ 65536 → Small (labels_in row codes s at)
 unfolding labels_in
 instruction_small row codes s at h =
-    between_append 0 2147483648 (where_picked (eqb (get_or row 1 0) 1) (one {x = at + length_of codes} (omega arith) (omega arith) none) none)
-    (where_picked (eqb (get_or row 2 0) 0) none (targets_small at codes (pairs codes s (at + 1))))
+    between_append 0 2147483648 (where_picked row.ends_flow (one {x = at + length_of codes} (omega arith) (omega arith) none) none)
+    (by_jump row.jump (targets_small at codes (pairs codes s (at + 1))))
 
 module _ (o : Opcodes) (last : ℕ) (s : List ℕ) where
   all_small : {at : ℕ} {rs : List (List ℕ)} → length s ≤ 65536 → Decoding o.types last s at rs → Small (row_labels o rs)
   unfolding row_labels
   all_small h (ended g) = none
   all_small h (more {at} g l k d) =
-      between_append 0 2147483648 {k = record_labels o (record_of (row_at o.types s at) s at)} (rw (labels_record o s at) (instruction_small (get_or o.rows (get_or s at 0) []) (row_at o.types s at) s at (omega (arith, h, k)))) (all_small h d)
+      between_append 0 2147483648 {k = record_labels o (record_of (row_at o.types s at) s at)} (rw (labels_record o s at) (instruction_small (get_or o.rows (get_or s at 0) no_row) (row_at o.types s at) s at (omega (arith, h, k)))) (all_small h d)
 
   pub labels_small : (rs : List (List ℕ)) → length s ≤ 65536 → decode_body o.types last s ≡ decoded rs → Between 0 2147483648 (row_labels o rs)
   labels_small rs h e = all_small h (body_stands o.types last s rs e)

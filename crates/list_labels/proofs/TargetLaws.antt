@@ -74,23 +74,19 @@ module _ (n : Notes) (s : List ℕ) (p at code bits target : ℕ) (b : bits ≡ 
 pub other_noted : (n : Notes) (at code bits : ℕ) → (family_of code ≡ 4 → ⊥) → n ≡ note_all n (target_in at code bits)
 other_noted n at code bits e = rw (target_other at code bits e) (sym (all_none n))
 
--- the target of a short jump, where there is one: `x` was noted by its kind, or is negative
-module _ (n : Notes) (kind at bits next x : ℕ) (t : x ≡ pick (eqb kind 1) (target_of at 9 bits) next) where
-  target_is : kind ≡ 1 → x ≡ target_of at 9 bits
-  target_is e = rw (eq-eqb kind 1 e) at t
-
-  pub short_kept : (n' : Notes) → x < 2147483648 → n' ≡ note_all n (pick (eqb kind 1) (x ∷ []) []) → n' ≡ note_all n (pick (eqb kind 1) (target_in at 9 bits) [])
+-- the target of a short jump, where there is one: `x` was noted if it is one, or is negative
+module _ (n : Notes) (at bits next x : ℕ) where
+  pub short_kept : (short : Bool) → x ≡ pick short (target_of at 9 bits) next → (n' : Notes) → x < 2147483648 → n' ≡ note_all n (pick short (x ∷ []) [])
+      → n' ≡ note_all n (pick short (target_in at 9 bits) [])
   unfolding family_of
-  short_kept n' h q =
-      by_eqb kind 1
-      (λ e. let k : target_of at 9 bits < 2147483648 = rw (sym (target_is e)) h in
-      rw (eq-eqb kind 1 e, target_kept at 9 bits refl k, sym (target_is e)) (rw (eq-eqb kind 1 e) at q))
-      (λ e. rw (ne_eqb kind 1 e) (rw (ne_eqb kind 1 e) at q))
+  short_kept true t n' h q =
+      let k : target_of at 9 bits < 2147483648 = rw (sym t) h in
+      rw (target_kept at 9 bits refl k, sym t) q
+  short_kept false t n' h q = q
 
-  pub short_negative : 2147483648 ≤ x → n ≡ note_all n (pick (eqb kind 1) (target_in at 9 bits) [])
+  pub short_negative : (short : Bool) → x ≡ pick short (target_of at 9 bits) next → 2147483648 ≤ x → n ≡ note_all n (pick short (target_in at 9 bits) [])
   unfolding family_of
-  short_negative h =
-      by_eqb kind 1
-      (λ e. let k : 2147483648 ≤ target_of at 9 bits = rw (sym (target_is e)) h in
-      rw (eq-eqb kind 1 e, target_negative at 9 bits refl k) (sym (all_none n)))
-      (λ e. rw (ne_eqb kind 1 e) (sym (all_none n)))
+  short_negative true t h =
+      let k : 2147483648 ≤ target_of at 9 bits = rw (sym t) h in
+      rw (target_negative at 9 bits refl k) (sym (all_none n))
+  short_negative false t h = sym (all_none n)

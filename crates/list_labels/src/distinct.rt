@@ -10,8 +10,7 @@ fn part(a: &mut [u32], spare: &mut [u32], bound: u32) -> usize
     ensures { (result ≤ length a.old) × (take result a.new ≡ below bound a.old) × (take (length a.old - result) spare.new ≡ above bound a.old) }
 {
     let mut n: usize = 0;
-    let mut i: usize = 0;
-    while i < a.len() {
+    for i in 0..a.len() {
         let x = a[i];
         if x < bound {
             a[n] = x;
@@ -19,7 +18,6 @@ fn part(a: &mut [u32], spare: &mut [u32], bound: u32) -> usize
         } else {
             spare[i - n] = x;
         }
-        i += 1;
     }
     n
 }

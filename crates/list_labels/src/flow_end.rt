@@ -24,12 +24,12 @@ fn is_flow_end(name: &[u8]) -> bool
     false
 }
 
-// Whether the opcode whose name starts at `start` and is `size` long is one. A length of 0 is a gap, "<invalid>".
-pub(crate) fn ends_flow(sheet: &[u8], start: usize, size: usize) -> bool
-    ensures { result ≡ ends_flow (name_shown sheet.now start size) }
+// Whether the opcode whose name starts at `start` of a sheet's text and is `size` long is one. A length of 0 is a gap, "<invalid>".
+pub(crate) fn ends_flow(text: &[u8], start: usize, size: usize) -> bool
+    ensures { result ≡ ends_flow (name_shown text.now start size) }
 {
     if size == 0 {
         return false;
     }
-    is_flow_end(slices::part::part_of(sheet, start, size))
+    is_flow_end(slices::part::part_of(text, start, size))
 }

@@ -1,5 +1,5 @@
 // Offsets noted as they are met: near ones in flags, one for each offset, and far ones, those past the flags, in a list.
-ghost use Rattle.std.specs.Prelude.{◌≡◌, [], ◌∷◌, ◌+◌, ◌≤◌, ◌<◌, eqb, length, get_or};
+ghost use Rattle.std.specs.Prelude.{◌≡◌, true, not, [], ◌∷◌, ◌+◌, ◌≤◌, ◌<◌, length, get_or};
 ghost use Rattle.limits.specs.Limits.{body_limit};
 ghost use Rattle.lists.specs.Choice.{pick, both};
 ghost use Rattle.lists.specs.Scan.{part};
@@ -13,14 +13,15 @@ ghost use Rattle.list_labels.specs.Notes.{notes_of, note_all};
 ghost use Rattle.list_labels.specs.OpcodeRows.{RowFits};
 ghost use Rattle.list_labels.specs.InstructionNotes.{target_in, labels_in};
 
-use crate::offset_set::{Counts, note};
-use crate::opcode_rows::{FLOW_END, JUMP, SHORT_JUMP};
-use sheet::operand_types::{ADDR_FAMILY, ADDR8};
-use slices::widen::{byte_index, wide_byte};
+use crate::offset_set::Counts;
+use crate::opcode_rows::OpcodeRow;
+use crate::target::{is_addr, target_of};
+use sheet::operand_types::ADDR8;
+use slices::widen::wide_byte;
 
 // Notes the target of an operand at p of the jump at `at`, where it is an Addr's and not negative.
 fn note_target(
-    flags: &mut [u8],
+    flags: &mut [bool],
     stored: &mut [u32],
     counts: Counts,
     s: &[u8],
@@ -31,13 +32,13 @@ fn note_target(
     requires { (at ≤ body_limit) × (p + width_of code ≤ length s.now) × (counts.near + counts.far < 18446744073709551615) }
     ensures { notes_of flags.new stored.new result ≡ note_all (notes_of flags.old stored.old counts) (target_in at code (le (part s.now p (width_of code)))) }
 {
-    if sheet::operand_types::family(code) == ADDR_FAMILY {
+    if is_addr(code) {
         let o = operand::read::read_operand(code, s, p);
         let value = o.value;
         let bits = operand::value::bits_of(value, o.bits);
-        let target = crate::target::target_of(at, code, bits);
+        let target = target_of(at, code, bits);
         if target < 0x8000_0000 {
-            return note(flags, stored, counts, target);
+            return counts.note(flags, stored, target);
         }
         return counts;
     }
@@ -46,7 +47,7 @@ fn note_target(
 
 // Notes the targets of the jump at `at`.
 fn note_targets(
-    flags: &mut [u8],
+    flags: &mut [bool],
     stored: &mut [u32],
     counts: Counts,
     row: [u8; 8],
@@ -59,98 +60,86 @@ fn note_targets(
 {
     let mut c = counts;
     let mut p = at + 1;
-    let mut i: usize = 0;
-    while i < 8 {
-        let code = row[i];
+    for code in row {
         c = note_target(flags, stored, c, s, at, code, p);
         p += sheet::operand_types::width(code);
-        i += 1;
     }
     c
 }
 
 // Whether an offset with this flag is to be flagged now.
-fn is_new(mark: u8, flag: u8) -> bool
-    ensures { result ≡ both (eqb mark 1) (eqb flag 0) }
+fn is_new(marked: bool, flag: bool) -> bool
+    ensures { result ≡ both marked (not flag) }
 {
-    if mark == 1 { flag == 0 } else { false }
+    marked && !flag
 }
 
-// The flag afterwards.
-fn flag_after(new: bool, flag: u8) -> u8
-    ensures { result ≡ pick new 1 flag }
-{
-    if new { 1 } else { flag }
-}
-
-fn one_if(new: bool) -> usize
-    ensures { (result ≡ pick new 1 0) × (result ≤ 1) }
-{
-    if new { 1 } else { 0 }
-}
-
-// Notes an offset where the mark is 1. A near one is flagged by the same steps whatever the mark is, since which instructions end the
+// Notes an offset where it is marked. A near one is flagged by the same steps whatever the mark is, since which instructions end the
 // flow or jump cannot be foreseen, and a branch costs more.
-fn note_where(mark: u8, flags: &mut [u8], stored: &mut [u32], counts: Counts, x: u32) -> Counts
+fn note_where(
+    marked: bool,
+    flags: &mut [bool],
+    stored: &mut [u32],
+    counts: Counts,
+    x: u32,
+) -> Counts
     requires { counts.near + counts.far < 18446744073709551615 }
-    ensures { notes_of flags.new stored.new result ≡ note_all (notes_of flags.old stored.old counts) (pick (eqb mark 1) (x ∷ []) []) }
+    ensures { notes_of flags.new stored.new result ≡ note_all (notes_of flags.old stored.old counts) (pick marked (x ∷ []) []) }
 {
     let at = x as usize;
     if at < flags.len() {
         let flag = flags[at];
-        let new = is_new(mark, flag);
-        flags[at] = flag_after(new, flag);
+        let new = is_new(marked, flag);
+        flags[at] = marked | flag;
         return Counts {
-            near: counts.near + one_if(new),
-            far: counts.far,
-            low: counts.low,
-            high: counts.high,
+            near: counts.near + usize::from(new),
+            ..counts
         };
     }
-    if mark == 1 {
-        return note(flags, stored, counts, x);
+    if marked {
+        return counts.note(flags, stored, x);
     }
     counts
 }
 
 // The target of the Addr8 behind the opcode of the short jump at `at`; what is no jump gives the offset behind it.
-fn short_target(kind: u8, s: &[u8], at: usize, next: u32) -> u32
-    requires { (kind ≤ 1) × (at + kind < length s.now) × (at ≤ body_limit) }
-    ensures { result ≡ pick (eqb kind 1) (target_of at addr8 (get_or s.now (at + 1) 0)) next }
+fn short_target(short: bool, s: &[u8], at: usize, next: u32) -> u32
+    requires { (at < length s.now) × (short ≡ true → at + 1 < length s.now) × (at ≤ body_limit) }
+    ensures { result ≡ pick short (target_of at addr8 (get_or s.now (at + 1) 0)) next }
 {
-    let distance = s[at + byte_index(kind)];
-    let target = crate::target::target_of(at, ADDR8, wide_byte(distance));
-    if kind == SHORT_JUMP { target } else { next }
+    let distance = s[at + usize::from(short)];
+    let target = target_of(at, ADDR8, wide_byte(distance));
+    if short { target } else { next }
 }
 
 // Notes the target of a short jump, where it is not negative; nothing of what is no jump.
 fn note_short(
-    kind: u8,
-    flags: &mut [u8],
+    short: bool,
+    flags: &mut [bool],
     stored: &mut [u32],
     counts: Counts,
     s: &[u8],
     at: usize,
     next: u32,
 ) -> Counts
-    requires { (kind ≤ 1) × (at + kind < length s.now) × (at ≤ body_limit) × (counts.near + counts.far < 18446744073709551615) }
-    ensures { notes_of flags.new stored.new result ≡ note_all (notes_of flags.old stored.old counts) (pick (eqb kind 1) (target_in at addr8 (get_or s.now (at + 1) 0)) []) }
+    requires { (at < length s.now) × (short ≡ true → at + 1 < length s.now) × (at ≤ body_limit) × (counts.near + counts.far < 18446744073709551615) }
+    ensures { notes_of flags.new stored.new result ≡ note_all (notes_of flags.old stored.old counts) (pick short (target_in at addr8 (get_or s.now (at + 1) 0)) []) }
 {
-    let x = short_target(kind, s, at, next);
+    let x = short_target(short, s, at, next);
     if x < 0x8000_0000 {
-        return note_where(kind, flags, stored, counts, x);
+        return note_where(short, flags, stored, counts, x);
     }
     counts
 }
 
 // Notes the label offsets that the instruction at `at` contributes, by its opcode's row and type codes.
 pub(crate) fn note_instruction(
-    row: [u8; 3],
+    row: OpcodeRow,
     codes: [u8; 8],
     s: &[u8],
     at: usize,
     size: usize,
-    flags: &mut [u8],
+    flags: &mut [bool],
     stored: &mut [u32],
     counts: Counts,
 ) -> Counts
@@ -159,10 +148,10 @@ pub(crate) fn note_instruction(
     ensures far_bound { result.near + result.far ≤ at + size }
 {
     let next = (at + size) as u32;
-    let c = note_where(row[FLOW_END], flags, stored, counts, next);
-    let kind = row[JUMP];
-    if SHORT_JUMP < kind {
+    let c = note_where(row.ends_flow, flags, stored, counts, next);
+    let jump = row.jump;
+    if jump.is_other() {
         return note_targets(flags, stored, c, codes, s, at);
     }
-    note_short(kind, flags, stored, c, s, at, next)
+    note_short(jump.is_short(), flags, stored, c, s, at, next)
 }

@@ -1,6 +1,7 @@
 // The label offsets of a body: collect_label_offsets of disasm.rs.
 #![tactic(auto)]
 
+pub mod body; // a body that is walked over
 pub mod collect; // one walk over a body
 pub mod distinct; // how many different numbers a slice has
 pub mod flow_end; // which instructions end the flow

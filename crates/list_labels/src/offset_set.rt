@@ -1,5 +1,5 @@
 // One label offset, flagged or stored, and counted.
-ghost use Rattle.std.specs.Prelude.{◌≡◌, ◌+◌, ◌<◌, set};
+ghost use Rattle.std.specs.Prelude.{◌≡◌, ◌+◌, ◌<◌};
 ghost use Rattle.list_labels.specs.Notes as notes;
 ghost use Rattle.list_labels.specs.Notes.{notes_of};
 
@@ -13,47 +13,30 @@ pub struct Counts {
     pub high: usize,
 }
 
-// Stores a far offset as the n-th, where there is room.
-fn store_far(stored: &mut [u32], n: usize, x: u32)
-    ensures { stored.new ≡ set stored.old n x }
-{
-    if n < stored.len() {
-        stored[n] = x;
-    }
-}
-
-// Notes one offset.
-pub(crate) fn note(flags: &mut [u8], stored: &mut [u32], counts: Counts, x: u32) -> Counts
-    requires { counts.near + counts.far < 18446744073709551615 }
-    ensures { notes_of flags.new stored.new result ≡ notes.note (notes_of flags.old stored.old counts) x }
-{
-    let near = counts.near;
-    let far = counts.far;
-    let low = counts.low;
-    let high = counts.high;
-    let at = x as usize;
-    if at < flags.len() {
-        if flags[at] == 0 {
-            flags[at] = 1;
-            return Counts {
-                near: near + 1,
-                far,
-                low,
-                high,
-            };
+impl Counts {
+    // Notes one offset: flags a near one, and stores a far one behind those that were met, where there is room.
+    #[tactic(auto, unfolding(crate::specs::Notes::note))]
+    pub(crate) fn note(self, flags: &mut [bool], stored: &mut [u32], x: u32) -> Counts
+        requires { self.near + self.far < 18446744073709551615 }
+        ensures { notes_of flags.new stored.new result ≡ notes.note (notes_of flags.old stored.old self) x }
+    {
+        let mut counts = self;
+        let at = x as usize;
+        if at < flags.len() {
+            if !flags[at] {
+                flags[at] = true;
+                counts.near += 1;
+            }
+            return counts;
         }
-        return counts;
-    }
-    if low <= at {
-        if at < high {
-            store_far(stored, far, x);
-            return Counts {
-                near,
-                far: far + 1,
-                low,
-                high,
-            };
+        if self.low <= at {
+            if at < self.high {
+                if self.far < stored.len() {
+                    stored[self.far] = x;
+                }
+                counts.far += 1;
+            }
         }
+        counts
     }
-    counts
 }

@@ -1,109 +1,107 @@
 // What a listing needs of each opcode, made once with the sheet: both walks over a body take an instruction's length from here,
 // and the walk for labels looks at operands only where they are a jump's.
-ghost use Rattle.std.specs.Prelude.{◌≡◌, ◌≤◌, eqb, drop};
-ghost use Rattle.lists.specs.Choice.{pick, both};
-ghost use Rattle.list_labels.specs.OpcodeRows.{has_addr, is_short, jump_kind, opcode_row, OpcodeRows};
+ghost use Rattle.std.specs.Prelude.{◌≡◌, eqb};
+ghost use Rattle.lists.specs.Choice.{both};
+ghost use Rattle.list_labels.specs.OpcodeRows.{has_addr, is_short, is_short_jump, is_other_jump, jump_of, opcode_row, OpcodeRows};
 
-use sheet::operand_types::{ADDR_FAMILY, ADDR8};
+use crate::target::is_addr;
+use sheet::operand_types::ADDR8;
 use sheet::rows::{JUMP_MARK, NAME_SIZE, NAME_START};
+use sheet::tables::Tables;
 
-// Where a row has the length of an instruction, 1 where it ends the flow, and how its targets are found.
-pub const SIZE: usize = 0;
+// How an instruction's targets are found: there are none, since it is no jump or has no Addr; its only Addr is an Addr8 right behind
+// the opcode, as it is of most jumps; any other jump.
+#[derive(Clone, Copy)]
+pub enum Jump {
+    NoTarget,
+    Short,
+    Other,
+}
 
-pub const FLOW_END: usize = 1;
-
-pub const JUMP: usize = 2;
-
-// Which jumps are told apart: no jump, or one without an Addr; one whose only Addr is an Addr8 right behind the opcode, as most are;
-// any other.
-pub const NO_TARGET: u8 = 0;
-
-pub const SHORT_JUMP: u8 = 1;
-
-pub const OTHER_JUMP: u8 = 2;
-
-// Whether an operand of these types, from the given one on, is an Addr.
-fn has_addr(codes: [u8; 8], from: usize) -> bool
-    requires { «from» ≤ 8 }
-    ensures { result ≡ has_addr (drop «from» codes) }
-{
-    let mut i = from;
-    while i < 8 {
-        if sheet::operand_types::family(codes[i]) == ADDR_FAMILY {
-            return true;
-        }
-        i += 1;
+impl Jump {
+    pub(crate) fn is_short(self) -> bool
+        ensures { result ≡ is_short_jump self }
+    {
+        matches!(self, Jump::Short)
     }
-    false
+
+    pub(crate) fn is_other(self) -> bool
+        ensures { result ≡ is_other_jump self }
+    {
+        matches!(self, Jump::Other)
+    }
+}
+
+// The length of an instruction, whether it ends the flow, and how its targets are found.
+#[derive(Clone, Copy)]
+pub struct OpcodeRow {
+    pub size: u8,
+    pub ends_flow: bool,
+    pub jump: Jump,
+}
+
+// Whether an operand of these types is an Addr.
+fn has_addr(codes: &[u8]) -> bool
+    ensures { result ≡ has_addr codes.now }
+{
+    codes.iter().any(|&code| is_addr(code))
 }
 
 // Whether an instruction with this jump mark and these types has targets.
 fn is_jump(mark: usize, codes: [u8; 8]) -> bool
     ensures { result ≡ both (eqb mark 1) (has_addr codes) }
 {
-    if mark == 1 {
-        return has_addr(codes, 0);
-    }
-    false
+    mark == 1 && has_addr(&codes)
 }
 
 // Whether an Addr8 stands right behind the opcode and is the only Addr.
+#[tactic(auto, unfolding(crate::specs::OpcodeRows::is_short))]
 fn is_short(codes: [u8; 8]) -> bool
     ensures { result ≡ is_short codes }
 {
-    if codes[0] == ADDR8 {
-        return !has_addr(codes, 1);
-    }
-    false
+    codes[0] == ADDR8 && !has_addr(&codes[1..])
 }
 
 // How the targets of an instruction with this jump mark and these types are found.
-fn jump_kind(mark: usize, codes: [u8; 8]) -> u8
-    ensures { result ≡ jump_kind mark codes }
+fn jump_of(mark: usize, codes: [u8; 8]) -> Jump
+    ensures { result ≡ jump_of mark codes }
 {
     if is_jump(mark, codes) {
         if is_short(codes) {
-            return SHORT_JUMP;
+            return Jump::Short;
         }
-        return OTHER_JUMP;
+        return Jump::Other;
     }
-    NO_TARGET
-}
-
-fn one_if(b: bool) -> u8
-    ensures { result ≡ pick b 1 0 }
-{
-    if b { 1 } else { 0 }
+    Jump::NoTarget
 }
 
 // The row of an opcode, by its type codes and its name and jump mark.
-fn opcode_row(sheet: &[u8], codes: [u8; 8], info: [usize; 4]) -> [u8; 3]
-    ensures { result ≡ opcode_row sheet.now codes info }
+fn opcode_row(text: &[u8], codes: [u8; 8], info: [usize; 4]) -> OpcodeRow
+    ensures { result ≡ opcode_row text.now codes info }
 {
-    let size = sheet::row::instruction_length(codes) as u8;
-    let ends = crate::flow_end::ends_flow(sheet, info[NAME_START], info[NAME_SIZE]);
-    let kind = jump_kind(info[JUMP_MARK], codes);
-    [size, one_if(ends), kind]
+    OpcodeRow {
+        size: sheet::row::instruction_length(codes) as u8,
+        ends_flow: crate::flow_end::ends_flow(text, info[NAME_START], info[NAME_SIZE]),
+        jump: jump_of(info[JUMP_MARK], codes),
+    }
 }
 
 // The rows of all opcodes up to the largest.
-pub fn opcode_rows(
-    sheet: &[u8],
-    types: &[[u8; 8]; 256],
-    ops: &[[usize; 4]; 256],
-    last: usize,
-) -> [[u8; 3]; 256]
-    ensures { OpcodeRows sheet.now types.now ops.now last result }
+pub fn opcode_rows(tables: Tables<'_>, last: usize) -> [OpcodeRow; 256]
+    ensures { OpcodeRows tables.entry.text.now tables.entry.types.now tables.entry.ops.now last result }
 {
-    let mut rows = [[0u8; 3]; 256];
-    let mut op: usize = 0;
-    while op < 256 {
+    let none = OpcodeRow {
+        size: 0,
+        ends_flow: false,
+        jump: Jump::NoTarget,
+    };
+    let mut rows = [none; 256];
+    for op in 0..256 {
         if last < op {
             return rows;
         }
-        let row = opcode_row(sheet, types[op], ops[op]);
+        let row = opcode_row(tables.text, tables.types[op], tables.ops[op]);
         rows[op] = row;
-        op += 1;
     }
     rows
 }

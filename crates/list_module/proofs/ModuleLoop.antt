@@ -17,12 +17,11 @@ use Rattle.spec_listing.specs.Module.{Area, list_function_in, list_functions_fro
 use Rattle.list_labels.specs.Collecting.{EntriesFor}
 use Rattle.listing.specs.Bodies.{Written}
 use Rattle.listing.specs.declared.body.Part.{Part}
-use Rattle.listing.specs.declared.body.Part.TheVariants as part
+use Rattle.std.specs.Prelude.{Result, Ok, Err}
 use Rattle.listing.proofs.WrittenLaws.{Text, was_listed, was_stopped}
 use Rattle.answers.specs.declared.refusal.Refusal.{Refusal}
 use Rattle.list_module.specs.Modules.{ModuleWritten}
 use Rattle.list_module.specs.Modules.ModuleWritten.{within, over, ended}
-use Rattle.operation.proofs.EndLaws.{zeros_of}
 
 -- nothing in front of a listing, nothing behind one, and three in a row
 append_first : (x : Listed) → x ≡ append (listed [] 0) x
@@ -68,8 +67,8 @@ module _ {lent : ℕ} {whole : Listed} {out₀ : List ℕ} where
   start : length out₀ ≤ top → Going lent whole whole out₀ out₀ 0 0
   start h = record { so_far = []; needed = 0; is_whole = append_first whole; counted = (omega arith, λ l. refl); at_is = refl; put = λ l. wrote_none h (omega arith); same_size = refl }
 
-  turn_text : {x rest : Listed} {out out' : List ℕ} {at most k n : ℕ} → Going lent whole (append x rest) out₀ out at most → Text lent x out at out' k n → Going lent whole rest out₀ out' (min k 1048577) (max most n)
-  turn_text {x} {rest} {out} {out'} {at} {most} {k} {n} g w =
+  turn_text : {x rest : Listed} {out out' : List ℕ} {at most : ℕ} {p : Part} → Going lent whole (append x rest) out₀ out at most → Text lent x out at out' p → Going lent whole rest out₀ out' (min p.next 1048577) (max most p.entries)
+  turn_text {x} {rest} {out} {out'} {at} {most} {p} g w =
       let l = length-append g.so_far w.lines in
       record {
         so_far = g.so_far ++ w.lines;
@@ -78,30 +77,28 @@ module _ {lent : ℕ} {whole : Listed} {out₀ : List ℕ} where
         counted = most_entries g.counted w.counted;
         at_is = omega (arith, g.at_is, w.put.next, l);
         put = λ h.
-            let e : min k 1048577 ≡ k = omega arith in
+            let e : min p.next 1048577 ≡ p.next = omega arith in
             let f : at ≤ 1048576 = omega (arith, w.put.next, g.at_is) in
             rw e (g.put f then w.put);
         same_size = kept_length w.put ∙ g.same_size;
       }
 
   -- a function that is listed, one that is refused, and the end
-  turn : {x more rest : Listed} {out out' : List ℕ} {at most k n at' most' : ℕ} {r : Part} → Going lent whole more out₀ out at most → more ≡ append x rest
-      → Written lent x out at out' r → r ≡ part.Listed k n → at' ≡ min k 1048577 → most' ≡ max most n → Going lent whole rest out₀ out' at' most'
+  turn : {x more rest : Listed} {out out' : List ℕ} {at most at' most' : ℕ} {p : Part} {r : Result Part Refusal} → Going lent whole more out₀ out at most → more ≡ append x rest
+      → Written lent x out at out' r → r ≡ Ok p → at' ≡ min p.next 1048577 → most' ≡ max most p.entries → Going lent whole rest out₀ out' at' most'
   turn g e w q a m = rw (a, m) (turn_text (rw e at g) (was_listed w q))
 
-  stopped : (rest : Listed) {x more : Listed} {out out' : List ℕ} {at most : ℕ} {r : Part} (f : Refusal) → Going lent whole more out₀ out at most → more ≡ append x rest
-      → Written lent x out at out' r → r ≡ part.Refused f → ModuleWritten lent whole out₀ out' r
+  stopped : (rest : Listed) {x more : Listed} {out out' after : List ℕ} {at most : ℕ} {r r' : Result Part Refusal} (f : Refusal) → Going lent whole more out₀ out at most → more ≡ append x rest
+      → Written lent x out at out' r → r ≡ Err f → r' ≡ Err f → ModuleWritten lent whole out₀ after r'
   unfolding append
-  stopped rest {out = out} {out' = out'} f g e w q =
-      let s = was_stopped w q in
-      ended f (g.is_whole ∙ rw (e, s.is_refused)) q (zeros_of out out₀ out' g.same_size s.cleared)
+  stopped rest f g e w q h = ended f (g.is_whole ∙ rw (e, was_stopped w q)) h
 
-  finished : {out : List ℕ} {at most : ℕ} → Going lent whole (listed [] 0) out₀ out at most → ModuleWritten lent whole out₀ out (part.Listed at most)
+  finished : {out : List ℕ} {at most : ℕ} → Going lent whole (listed [] 0) out₀ out at most → ModuleWritten lent whole out₀ out (Ok (record { next = at; entries = most }))
   finished {out} {at} {most} g =
       let e = g.is_whole ∙ append_last g.so_far g.needed in
       by_leb at 1048576
-      (λ l. within g.so_far at g.needed most e refl g.counted (g.put l))
-      (λ l. over g.so_far at g.needed most e refl l (omega (arith, g.at_is)) g.same_size)
+      (λ l. within g.so_far g.needed (record { next = at; entries = most }) e refl g.counted (g.put l))
+      (λ l. over g.so_far g.needed (record { next = at; entries = most }) e refl l (omega (arith, g.at_is)) g.same_size)
 
 -- the functions from `id` on
 module _ (o : Options) (e : Context) (lent last : ℕ) (a : Area) where
@@ -129,13 +126,13 @@ module _ (o : Options) (e : Context) (lent last : ℕ) (a : Area) where
         let n : function_count a.functions - 0 ≡ function_count a.functions = omega arith in
         rw n (start h)
 
-    pub listing_turn : {out out' : List ℕ} {id at most k n at' most' : ℕ} {r : Part} → Listing out₀ out id at most → id < function_count a.functions
-        → Written lent (list_function_in o e last a id) out at out' r → r ≡ part.Listed k n → at' ≡ min k 1048577 → most' ≡ max most n → Listing out₀ out' (id + 1) at' most'
+    pub listing_turn : {out out' : List ℕ} {id at most at' most' : ℕ} {p : Part} {r : Result Part Refusal} → Listing out₀ out id at most → id < function_count a.functions
+        → Written lent (list_function_in o e last a id) out at out' r → r ≡ Ok p → at' ≡ min p.next 1048577 → most' ≡ max most p.entries → Listing out₀ out' (id + 1) at' most'
     listing_turn {id = id} g h w q z y = turn g (rest_more id h) w q z y
 
-    pub listing_stopped : {out out' : List ℕ} {id at most : ℕ} {r : Part} (f : Refusal) → Listing out₀ out id at most → id < function_count a.functions
-        → Written lent (list_function_in o e last a id) out at out' r → r ≡ part.Refused f → ModuleWritten lent (list_all o e last a) out₀ out' r
-    listing_stopped {id = id} f g h w q = stopped (rest_from (id + 1)) f g (rest_more id h) w q
+    pub listing_stopped : {out out' after : List ℕ} {id at most : ℕ} {r r' : Result Part Refusal} (f : Refusal) → Listing out₀ out id at most → id < function_count a.functions
+        → Written lent (list_function_in o e last a id) out at out' r → r ≡ Err f → r' ≡ Err f → ModuleWritten lent (list_all o e last a) out₀ after r'
+    listing_stopped {id = id} f g h w q z = stopped (rest_from (id + 1)) f g (rest_more id h) w q z
 
-    pub listing_finished : {out : List ℕ} {id at most : ℕ} → Listing out₀ out id at most → function_count a.functions ≤ id → ModuleWritten lent (list_all o e last a) out₀ out (part.Listed at most)
+    pub listing_finished : {out : List ℕ} {id at most : ℕ} → Listing out₀ out id at most → function_count a.functions ≤ id → ModuleWritten lent (list_all o e last a) out₀ out (Ok (record { next = at; entries = most }))
     listing_finished {id = id} g h = finished (rw (rest_none id h) at g)

@@ -5,13 +5,13 @@ ghost use Rattle.list_module.specs.Titles.{name_text, name_by_id};
 
 use numbers::print_decimal::put_decimal;
 use slices::write::put_bytes;
-use strings::table::Entry;
+use strings::table::StringTable;
 
 // Writes a name, quoted and in parentheses; nothing for an empty one.
 fn put_name(out: &mut [u8], k: usize, name: &[u8]) -> usize
     ensures { Put out.old k (name_text name.now) out.new result }
 {
-    if name.len() == 0 {
+    if name.is_empty() {
         return k;
     }
     let a = put_bytes(out, k, b" (");
@@ -33,16 +33,13 @@ pub(crate) fn put_title(
     out: &mut [u8],
     k: usize,
     id: usize,
-    bytes: &[u8],
-    ends: &[u32],
+    strings: StringTable<'_>,
     name: usize,
 ) -> usize
-    ensures { Put out.old k (banner id (name_by_id bytes.now ends.now name)) out.new result }
+    ensures { Put out.old k (banner id (name_by_id strings.entry.bytes.now strings.entry.ends.now name)) out.new result }
 {
-    let found = strings::table::string_at(ends, name);
-    let Entry::Text(start, end) = found else {
+    let Some(entry) = strings.string_at(name) else {
         return put_banner(out, k, id, b"");
     };
-    let entry = strings::table::entry_part(bytes, start, end);
-    put_banner(out, k, id, entry)
+    put_banner(out, k, id, strings.part(entry.start, entry.end))
 }

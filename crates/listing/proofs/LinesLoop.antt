@@ -24,13 +24,17 @@ use Rattle.spec_body.specs.Record.{record_of, offset_of}
 use Rattle.spec_body.specs.Decode.{row_at, decode_body}
 use Rattle.spec_body.proofs.DecodeLaws.{Decoding, body_stands}
 use Rattle.spec_body.proofs.DecodeLaws.Decoding.{ended, more}
-use Rattle.spec_inputs.specs.Context.{Context, context_from}
+use Rattle.spec_inputs.specs.Context.{Context}
 use Rattle.spec_listing.specs.Options.{Options}
 use Rattle.spec_listing.specs.Line.{instruction_text}
 use Rattle.spec_listing.specs.Labels.{label_offsets}
 use Rattle.spec_listing.specs.Listing.{label_line, label_text, instruction_line, long_line, listed_text}
-use Rattle.listing.specs.Parts.{Decodes, records_of, Flagged, block_size, line_start, flagged_text, options_of}
-use Rattle.listing.specs.declared.options.Options as declared
+use Rattle.listing.specs.Parts.{Decodes, records_of, block_size, line_start, flagged_text, options_of}
+use Rattle.list_labels.specs.Collecting.{Flagged}
+use Rattle.list_labels.specs.OpcodeRows.{RowsFit}
+use Rattle.list_labels.proofs.OpcodeRowLaws.{rows_fit}
+use Rattle.listing.specs.Listers.{context_by, decoded_by}
+use Rattle.listing.specs.declared.lister.Lister.{Lister}
 
 -- the records of a body that decodes
 pub records_are : (types : List (List ℕ)) (last : ℕ) (s : List ℕ) (d : Decodes types last s) → Decoding types last s 0 (records_of (decode_body types last s))
@@ -38,7 +42,7 @@ unfolding records_of
 records_are types last s d = rw d.are (body_stands types last s d.records d.are)
 
 -- what the flags print is what the labels print
-marked_label : (o : Options) (labels flags indent : List ℕ) (at : ℕ) → Flagged flags labels → at < length flags → flagged_text o.show_labels flags indent at ≡ label_text o labels indent at
+marked_label : (o : Options) (labels : List ℕ) (flags : List Bool) (indent : List ℕ) (at : ℕ) → Flagged labels flags → at < length flags → flagged_text o.show_labels flags indent at ≡ label_text o labels indent at
 unfolding flagged_text label_text
 marked_label o labels flags indent at m h = rw (m at h)
 
@@ -59,17 +63,17 @@ label_length indent at =
       decimal_length at,
     )
 
-label_short : (show : Bool) (flags indent : List ℕ) (at : ℕ) → length indent ≤ 2 → length (flagged_text show flags indent at) ≤ 30
+label_short : (show : Bool) (flags : List Bool) (indent : List ℕ) (at : ℕ) → length indent ≤ 2 → length (flagged_text show flags indent at) ≤ 30
 unfolding flagged_text
 label_short show flags indent at h =
-    short_pick (both show (eqb (get_or flags at 0) 1)) (label_line indent at) 30 (omega (arith, label_length indent at))
+    short_pick (both show (get_or flags at false)) (label_line indent at) 30 (omega (arith, label_length indent at))
 
 -- what is printed and how
 pub record Printing : Type 0 where
   pub o : Options
   pub e : Context
   pub labels : List ℕ
-  pub flags : List ℕ
+  pub flags : List Bool
   pub indent : List ℕ
   pub types : List (List ℕ)
   pub last : ℕ
@@ -114,7 +118,7 @@ pub record Line (p : Printing) (at : ℕ) (block : List ℕ) (n : ℕ) (block' :
 
 -- what the loop is given
 pub record Given (p : Printing) : Type 0 where
-  pub marked : Flagged p.flags p.labels
+  pub marked : Flagged p.labels p.flags
   pub flags_room : length p.s ≤ length p.flags
   pub indent_size : length p.indent ≤ 2
 
@@ -233,19 +237,23 @@ pub words_rise : {out out' t : List ℕ} {a c : ℕ} → ByWords out a t out' c 
 words_rise w h = omega (arith, w.next)
 
 -- the printing that the function is given part by part
-abbrev pub printing : declared.Options → List ℕ → List (List ℕ) → List (List ℕ) → ℕ → List ℕ → List ℕ → List ℕ → List ℕ → List ℕ → Printing
-printing options source types ops last bytes ends s flags indent = record {
-  o = options_of options;
-  e = context_from source types ops bytes ends;
-  labels = label_offsets (context_from source types ops bytes ends) (records_of (decode_body types last s));
+abbrev pub printing : Lister → List ℕ → List Bool → List ℕ → Printing
+printing l s flags indent = record {
+  o = options_of l.options;
+  e = context_by l;
+  labels = label_offsets (context_by l) (records_of (decoded_by l s));
   flags = flags;
   indent = indent;
-  types = types;
-  last = last;
+  types = l.tables.types.now;
+  last = l.last;
   s = s;
 }
 
-pub given : (p : Printing) → Flagged p.flags p.labels → (length p.s ≤ length p.flags) × (length p.s ≤ 65536) × (length p.indent ≤ 2) → Given p
+-- its rows say how long instructions are
+pub rows_are : (l : Lister) → RowsFit l.tables.types.now l.last l.rows.now
+rows_are l = rows_fit l.tables.text.now l.tables.types.now l.tables.ops.now l.last l.rows.now l.made
+
+pub given : (p : Printing) → Flagged p.labels p.flags → (length p.s ≤ length p.flags) × (length p.s ≤ 65536) × (length p.indent ≤ 2) → Given p
 given p m h = record { marked = m; flags_room = h.0; indent_size = h.2 }
 
 pub fits_next : (at size n : ℕ) → at + size ≤ n → n ≤ 65536 → at + size < 2 ^ 64

@@ -1,7 +1,7 @@
 -- The text of one operand, by its family. Assumes nothing.
-use mathlib.Core.Path.{◌≡◌, refl}
+use mathlib.Core.Path.{◌≡◌, refl, sym}
 use mathlib.Core.Bool.{Bool, true, false}
-use mathlib.Core.List.{List, ◌++◌}
+use mathlib.Core.List.{List, [], ◌++◌}
 use Prim.Native.Nat.{ℕ, ◌-◌, ◌^◌, ◌≤◌, ◌<◌}
 use native.Mathlib.Nat.{lt_of_lt_of_le, pow-le-pow_right}
 use native.Mathlib.Omega.{arith}
@@ -17,30 +17,32 @@ use Rattle.spec_sheet.specs.Types.{widths, width_of, family_of}
 use Rattle.spec_sheet.proofs.TypeLaws.{below, implies, by_codes}
 use Rattle.spec_strings.specs.Table.{text_of, entry_start, entry_end}
 use Rattle.spec_strings.specs.Escape.{quoted}
-use Rattle.strings.specs.Answers.{entry_of}
-use Rattle.strings.specs.declared.table.Entry.TheVariants as Entry
+use Rattle.strings.specs.Answers.{entry_at, entry_of}
+use Rattle.strings.specs.declared.table.Entry.{Entry}
+use Rattle.std.specs.Prelude.{Option, Some, None}
 use Rattle.spec_listing.specs.Operand.{target_of, string_text, operand_text}
-use Rattle.listing.specs.Numbers.{front_text, value_text}
+use Rattle.sheet.specs.declared.family.Family.{Family}
+use Rattle.sheet.specs.declared.family.Family.TheVariants.{NoOperand, Reg, UInt, Str, Addr, Imm32, Double}
+use Rattle.sheet.specs.Families.{family_number}
+use Rattle.spec_numbers.specs.LittleEndian.{le_bytes}
+use Rattle.listing.specs.Numbers.{front_text, signed_family, value_text}
 
 -- an id with a text, one without, and one whose text is not shown
 module _ (bytes ends : List ℕ) (id : ℕ) where
-  pub id_quoted : (start end : ℕ) → entry_of ends id ≡ Entry.Text start end → quoted (part bytes start (end - start)) ≡ string_text true bytes ends id
+  pub id_quoted : (x : Entry) → entry_of ends id ≡ Some x → quoted (part bytes x.start (x.end - x.start)) ≡ string_text true bytes ends id
   unfolding entry_of string_text
-  id_quoted start end = go (ltb id (length ends))
+  id_quoted x = go (ltb id (length ends))
     where
-      go : (b : Bool) → pick b (Entry.Text (entry_start ends id) (entry_end ends id)) Entry.Missing ≡ Entry.Text start end → quoted (part bytes start (end - start)) ≡ pick b (quoted (text_of bytes ends id)) (decimal id)
-      go true e =
-          let p : start ≡ entry_start ends id = cc e in
-          let q : end ≡ entry_end ends id = cc e in
-          rw (p, q)
-      go false e = absurd (let z : ◌≡◌ {A = ℕ} 0 1 = cc e in omega arith)
+      go : (b : Bool) → pick {A = Option Entry} b (Some (entry_at ends id)) None ≡ Some x → quoted (part bytes x.start (x.end - x.start)) ≡ pick b (quoted (text_of bytes ends id)) (decimal id)
+      go true e = let p : entry_at ends id ≡ x = cc e in rw (sym p)
+      go false e = cc e
 
-  pub id_missing : entry_of ends id ≡ Entry.Missing → decimal id ≡ string_text true bytes ends id
+  pub id_missing : entry_of ends id ≡ None → decimal id ≡ string_text true bytes ends id
   unfolding entry_of string_text
   id_missing = go (ltb id (length ends))
     where
-      go : (b : Bool) → pick b (Entry.Text (entry_start ends id) (entry_end ends id)) Entry.Missing ≡ Entry.Missing → decimal id ≡ pick b (quoted (text_of bytes ends id)) (decimal id)
-      go true e = absurd (let z : ◌≡◌ {A = ℕ} 0 1 = cc e in omega arith)
+      go : (b : Bool) → pick {A = Option Entry} b (Some (entry_at ends id)) None ≡ None → decimal id ≡ pick b (quoted (text_of bytes ends id)) (decimal id)
+      go true e = cc e
       go false e = refl
 
   pub id_hidden : decimal id ≡ string_text false bytes ends id
@@ -56,23 +58,82 @@ short_bits code bits f h =
     (λ l. let z : length widths ≤ code = omega arith in omega (arith, get_or-eq_default widths 0 z)) in
     lt_of_lt_of_le h (pow-le-pow_right {n = 256} (omega arith) w)
 
+-- what stands in front of numbers of a family, and whether they have a sign
+pub front_other : (f : Family) → (f ≡ Reg → ⊥) → (f ≡ Addr → ⊥) → front_text (family_number f) ≡ []
+unfolding front_text family_number
+front_other NoOperand a b = refl
+front_other Reg a b = absurd (a refl)
+front_other UInt a b = refl
+front_other Str a b = refl
+front_other Addr a b = absurd (b refl)
+front_other Imm32 a b = refl
+front_other Double a b = refl
+
+pub front_no_r : (f : Family) → (f ≡ Reg → ⊥) → le_bytes (length (front_text (family_number f))) 76 ≡ front_text (family_number f)
+unfolding front_text family_number le_bytes
+front_no_r NoOperand a = refl
+front_no_r Reg a = absurd (a refl)
+front_no_r UInt a = refl
+front_no_r Str a = refl
+front_no_r Addr a = refl
+front_no_r Imm32 a = refl
+front_no_r Double a = refl
+
+pub unsigned_other : (f : Family) → (f ≡ Addr → ⊥) → (f ≡ Imm32 → ⊥) → signed_family (family_number f) ≡ false
+unfolding family_number
+unsigned_other NoOperand a b = refl
+unsigned_other Reg a b = refl
+unsigned_other UInt a b = refl
+unsigned_other Str a b = refl
+unsigned_other Addr a b = absurd (a refl)
+unsigned_other Imm32 a b = absurd (b refl)
+unsigned_other Double a b = refl
+
+pub no_addr : (f : Family) → (f ≡ Addr → ⊥) → eqb (family_number f) 4 ≡ false
+unfolding family_number
+no_addr NoOperand a = refl
+no_addr Reg a = refl
+no_addr UInt a = refl
+no_addr Str a = refl
+no_addr Addr a = absurd (a refl)
+no_addr Imm32 a = refl
+no_addr Double a = refl
+
 -- by family
 module _ (texts : Bool) (bytes ends : List ℕ) (at code bits : ℕ) where
-  pub of_number : (family_of code ≡ 3 → ⊥) → both (ltb 0 (family_of code)) (leb (family_of code) 5) ≡ true
-      → front_text (family_of code) ++ value_text (family_of code) (pick (eqb (family_of code) 4) (target_of at code bits) bits) ≡ operand_text texts bytes ends at code bits
-  unfolding operand_text front_text value_text
-  of_number n b =
-      let l : 0 < family_of code = ltb-true 0 (family_of code) (both_left _ _ b) in
-      let m : family_of code ≤ 5 = leb-true (family_of code) 5 (both_right (ltb 0 (family_of code)) _ b) in
-      by_eqb (family_of code) 1 (λ e. rw e refl)
-      (λ x. by_eqb (family_of code) 2 (λ e. rw e refl) (λ y. by_eqb (family_of code) 4 (λ e. rw e refl) (λ z. by_eqb (family_of code) 5 (λ e. rw e refl) (λ w. absurd (omega arith)))))
+  abbrev text_here : List ℕ
+  text_here = operand_text texts bytes ends at code bits
 
-  pub of_string : family_of code ≡ 3 → string_text texts bytes ends bits ≡ operand_text texts bytes ends at code bits
-  unfolding operand_text
-  of_string f = rw f
+  -- a number has 32 bits at most, and is printed as one
+  pub number_small : (f : Family) → family_number f ≡ family_of code → (f ≡ Str → ⊥) → (f ≡ NoOperand → ⊥) → (f ≡ Double → ⊥) → family_of code ≤ 5
+  unfolding family_number
+  number_small NoOperand e a b c = absurd (b refl)
+  number_small Reg e a b c = omega arith
+  number_small UInt e a b c = omega arith
+  number_small Str e a b c = absurd (a refl)
+  number_small Addr e a b c = omega arith
+  number_small Imm32 e a b c = omega arith
+  number_small Double e a b c = absurd (c refl)
 
-  pub of_double : (family_of code ≡ 3 → ⊥) → both (ltb 0 (family_of code)) (leb (family_of code) 5) ≡ false → print_double bits ≡ operand_text texts bytes ends at code bits
+  pub of_number : (f : Family) → family_number f ≡ family_of code → (f ≡ Str → ⊥) → (f ≡ NoOperand → ⊥) → (f ≡ Double → ⊥)
+      → front_text (family_number f) ++ value_text (family_number f) (pick (eqb (family_of code) 4) (target_of at code bits) bits) ≡ text_here
+  unfolding operand_text front_text value_text family_number
+  of_number NoOperand e a b c = absurd (b refl)
+  of_number Reg e a b c = rw (sym e) refl
+  of_number UInt e a b c = rw (sym e) refl
+  of_number Str e a b c = absurd (a refl)
+  of_number Addr e a b c = rw (sym e) refl
+  of_number Imm32 e a b c = rw (sym e) refl
+  of_number Double e a b c = absurd (c refl)
+
+  pub of_string : 3 ≡ family_of code → string_text texts bytes ends bits ≡ text_here
   unfolding operand_text
-  of_double n b =
-      let other : (f : ℕ) → both (ltb 0 f) (leb f 5) ≡ true → family_of code ≡ f → ⊥ = λ f t e. true_not_false _ (rw e t) b in
-      rw (ne_eqb _ 1 (other 1 refl), ne_eqb _ 2 (other 2 refl), ne_eqb _ 3 n, ne_eqb _ 4 (other 4 refl), ne_eqb _ 5 (other 5 refl))
+  of_string e = rw (sym e)
+
+  pub of_none : 0 ≡ family_of code → print_double bits ≡ text_here
+  unfolding operand_text
+  of_none e = rw (sym e)
+
+  pub of_double : 6 ≡ family_of code → print_double bits ≡ text_here
+  unfolding operand_text
+  of_double e = rw (sym e)

@@ -1,5 +1,5 @@
 -- A function of an area. Assumes nothing.
-use Rattle.std.specs.Prelude.{List, [], ℕ}
+use Rattle.std.specs.Prelude.{List, [], ℕ, Result, Ok, Err}
 use Rattle.lists.specs.Scan.{part}
 use Rattle.answers.specs.Outcome.{Outcome}
 use Rattle.answers.specs.Outcome.Outcome.{refused_with}
@@ -9,14 +9,14 @@ use Rattle.spec_listing.specs.Options.{Options}
 use Rattle.spec_listing.specs.Listing.{list_decoded}
 use Rattle.spec_listing.specs.Module.{Area}
 use Rattle.spec_listing.specs.Operation.{list_outcome}
-use Rattle.operation.specs.declared.area.Located.{Located}
-use Rattle.operation.specs.declared.area.Located.TheVariants.{Inside, Refused}
+use Rattle.answers.specs.declared.refusal.Refusal.{Refusal}
+use Rattle.operation.specs.declared.area.Function.{Function}
 
 -- the area that the functions are given part by part
 abbrev pub area_of : List ℕ → List ℕ → ℕ → Area
 area_of functions bytes base = record { functions = functions; bytes = bytes; base = base }
 
 -- the outcome of a function by where it lies, under inputs that were read: "20 and then 18 of its body", then as a body
-unfoldable pub function_under : Options → List ℕ → Located → Context → ℕ → Outcome
-function_under o area (Inside f) e last = list_outcome (list_decoded o e [] (decode_body e.types last (part area f.start f.size)))
-function_under o area (Refused x) e last = refused_with x
+unfoldable pub function_under : Options → List ℕ → Result Function Refusal → Context → ℕ → Outcome
+function_under o area (Ok f) e last = list_outcome (list_decoded o e [] (decode_body e.types last (part area f.start f.size)))
+function_under o area (Err x) e last = refused_with x

@@ -1,5 +1,5 @@
 -- What the listing's inner functions are asked and answer. Assumes nothing.
-use Rattle.std.specs.Prelude.{◌≡◌, Bool, List, [], ℕ, ◌<◌, eqb, length, get_or}
+use Rattle.std.specs.Prelude.{◌≡◌, Bool, false, List, [], ℕ, get_or, Result, Ok, Err}
 use Rattle.lists.specs.Choice.{pick, both}
 use Rattle.lists.specs.Found.{Found}
 use Rattle.lists.specs.Found.Found.{found, missing}
@@ -7,10 +7,9 @@ use Rattle.lists.specs.Write.{Put}
 use Rattle.spec_body.specs.Decode.{Decoded, decode_body}
 use Rattle.spec_body.specs.Decode.Decoded.{decoded, not_decoded}
 use Rattle.spec_listing.specs.Options.{Options}
-use Rattle.spec_listing.specs.Labels.{among}
 use Rattle.spec_listing.specs.Listing.{label_line}
-use Rattle.listing.specs.declared.body_lines.Lines.{Lines}
-use Rattle.listing.specs.declared.body_lines.Lines.TheVariants as lines
+use Rattle.answers.specs.declared.refusal.Refusal.{Refusal}
+use Rattle.answers.specs.declared.refusal.Refusal.TheVariants.{LongLine}
 use Rattle.listing.specs.declared.options.Options as declared
 
 -- a body that decodes, and its records
@@ -22,13 +21,9 @@ unfoldable pub records_of : Decoded → List (List ℕ)
 records_of (decoded rs) = rs
 records_of (not_decoded x) = []
 
--- flags that say which offsets have a label
-abbrev pub Flagged : List ℕ → List ℕ → Type 0
-Flagged flags labels = (i : ℕ) → i < length flags → eqb (get_or flags i 0) 1 ≡ among i labels
-
 -- a label's line, by the flags
-unfoldable pub flagged_text : Bool → List ℕ → List ℕ → ℕ → List ℕ
-flagged_text labels flags indent at = pick (both labels (eqb (get_or flags at 0) 1)) (label_line indent at) []
+unfoldable pub flagged_text : Bool → List Bool → List ℕ → ℕ → List ℕ
+flagged_text labels flags indent at = pick (both labels (get_or flags at false)) (label_line indent at) []
 
 -- the options that a function is given one by one
 abbrev pub options_from : Bool → Bool → Bool → Options
@@ -39,9 +34,9 @@ abbrev pub options_of : declared.Options → Options
 options_of o = options_from o.show_offsets o.show_labels o.resolve_strings
 
 -- lines whose text is t, unless one is too long, were written at `from`: the buffer was `out` and is `out'`
-pub data Lined (t : List ℕ) (long : Found) (out : List ℕ) («from» : ℕ) (out' : List ℕ) (r : Lines) : Type 0 where
-  all : (k : ℕ) → long ≡ missing → r ≡ lines.To k → Put out «from» t out' k → Lined t long out «from» out' r
-  over : (at : ℕ) → long ≡ found at → r ≡ lines.Long at → Lined t long out «from» out' r
+pub data Lined (t : List ℕ) (long : Found) (out : List ℕ) («from» : ℕ) (out' : List ℕ) (r : Result ℕ Refusal) : Type 0 where
+  all : (k : ℕ) → long ≡ missing → r ≡ Ok k → Put out «from» t out' k → Lined t long out «from» out' r
+  over : (at : ℕ) → long ≡ found at → r ≡ Err (LongLine at) → Lined t long out «from» out' r
 
 -- how long a block is that lines are gathered in, and where the last line in it starts at most
 abbrev pub block_size : ℕ

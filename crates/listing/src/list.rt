@@ -7,88 +7,103 @@ ghost use Rattle.spec_listing.specs.Operation as operation;
 ghost use Rattle.spec_listing.specs.Operation.{list_outcome};
 ghost use Rattle.listing.specs.Parts.{options_of};
 ghost use Rattle.spec_inputs.specs.Context.{context_from};
+ghost use Rattle.answers.specs.Answers.{answer_report};
 ghost use Rattle.answers.specs.Report.{cleared};
 ghost use Rattle.answers.specs.Outcome.{Ended};
-ghost use Rattle.listing.specs.Answers.{list_report};
+ghost use Rattle.operation.specs.Ends.{left_by};
 
-use crate::answer::ListAnswer;
 use crate::body::Room;
+use crate::lister::Lister;
 use crate::options::Options;
+use answers::failure::{Answer, Failure};
 use answers::refusal::Refusal;
-use operation::inputs::Inputs;
-use slices::write::clear;
+use operation::ending::settle;
+use sheet::tables::Tables;
+use slices::clearing::clear;
+use strings::table::StringTable;
 
-// Lists a body under the tables of a sheet, whose names are parts of `sheet`.
-pub fn list_under(
+// Lists a body under a sheet's tables. The output is left to settle.
+pub(crate) fn list_read(
     options: Options,
-    sheet: &[u8],
-    types: &[[u8; 8]; 256],
-    ops: &[[usize; 4]; 256],
+    tables: Tables<'_>,
     last: usize,
-    bytes: &[u8],
-    ends: &[u32],
+    strings: StringTable<'_>,
     s: &[u8],
     lent: usize,
     out: &mut [u8],
-) -> ListAnswer
+) -> Answer
     requires { length s.now ≤ body_limit }
-    ensures { Ended (list_outcome (list_decoded (options_of options) (context_from sheet.now types.now ops.now bytes.now ends.now) [] (decode_body types.now last s.now))) out.old (lent ∷ []) out.new (list_report result) }
+    ensures { Ended (list_outcome (list_decoded (options_of options) (context_from tables.entry.text.now tables.entry.types.now tables.entry.ops.now strings.entry.bytes.now strings.entry.ends.now) [] (decode_body tables.entry.types.now last s.now))) out.old (lent ∷ []) (left_by result out.new) (answer_report result) }
 {
-    let rows = list_labels::opcode_rows::opcode_rows(sheet, types, ops, last);
-    let p = crate::body::list_body(
+    let rows = list_labels::opcode_rows::opcode_rows(tables, last);
+    let lister = Lister {
         options,
-        sheet,
-        types,
-        ops,
-        &rows,
+        tables,
+        strings,
+        rows: &rows,
         last,
-        bytes,
-        ends,
-        s,
-        b"",
-        Room { from: 0, lent },
-        out,
-    );
-    crate::answer::finish(p, lent, out)
+    };
+    let part = crate::body::list_body(&lister, s, b"", Room { from: 0, lent }, out)?;
+    operation::ending::measure(part.next, limits::LISTING_LIMIT, part.entries, lent, out)
+}
+
+// Lists a body under a sheet's tables, whose names are parts of their text.
+pub fn list_under(
+    options: Options,
+    tables: Tables<'_>,
+    last: usize,
+    strings: StringTable<'_>,
+    s: &[u8],
+    lent: usize,
+    out: &mut [u8],
+) -> Answer
+    requires { length s.now ≤ body_limit }
+    ensures { Ended (list_outcome (list_decoded (options_of options) (context_from tables.entry.text.now tables.entry.types.now tables.entry.ops.now strings.entry.bytes.now strings.entry.ends.now) [] (decode_body tables.entry.types.now last s.now))) out.old (lent ∷ []) out.new (answer_report result) }
+{
+    let answer = list_read(options, tables, last, strings, s, lent, out);
+    settle(answer, out);
+    answer
+}
+
+// Reads the sheet and lists a body: 18 of the body, then the inputs' refusals. The output is left to settle.
+fn list_given(
+    options: Options,
+    sheet: &[u8],
+    strings: StringTable<'_>,
+    body: &[u8],
+    lent: usize,
+    out: &mut [u8],
+) -> Answer
+    ensures { Ended (operation.list (options_of options) sheet.now strings.entry.bytes.now strings.entry.ends.now body.now) out.old (lent ∷ []) (left_by result out.new) (answer_report result) }
+{
+    if limits::BODY_LIMIT < body.len() {
+        return Err(Failure::Refused(Refusal::TooLarge));
+    }
+    let mut types = [[0u8; 8]; 256];
+    let mut ops = [[0usize; 4]; 256];
+    let last = operation::inputs::read_inputs(sheet, strings, &mut types, &mut ops)?;
+    let tables = Tables {
+        text: sheet,
+        types: &types,
+        ops: &ops,
+    };
+    list_read(options, tables, last, strings, body, lent, out)
 }
 
 // Lists a body under a sheet given as text and a string table.
 pub fn list(
     options: Options,
     sheet: &[u8],
-    bytes: &[u8],
-    ends: &[u32],
+    strings: StringTable<'_>,
     body: &[u8],
     out: &mut [u8],
     entries: &mut [u32],
-) -> ListAnswer
-    ensures ended { Ended (operation.list (options_of options) sheet.now bytes.now ends.now body.now) out.old (length entries.old ∷ []) out.new (list_report result) }
+) -> Answer
+    ensures ended { Ended (operation.list (options_of options) sheet.now strings.entry.bytes.now strings.entry.ends.now body.now) out.old (length entries.old ∷ []) out.new (answer_report result) }
     ensures entries_after { entries.new ≡ cleared 0 entries.old }
 {
-    slices::clearing::clear_entries(entries);
-    if limits::BODY_LIMIT < body.len() {
-        clear(out);
-        return ListAnswer::Refused(Refusal::TooLarge);
-    }
-    let mut types = [[0u8; 8]; 256];
-    let mut ops = [[0usize; 4]; 256];
-    let i = operation::inputs::read_inputs(sheet, bytes, ends, &mut types, &mut ops);
-    match i {
-        Inputs::Ready(last) => list_under(
-            options,
-            sheet,
-            &types,
-            &ops,
-            last,
-            bytes,
-            ends,
-            body,
-            entries.len(),
-            out,
-        ),
-        Inputs::Refused(x) => {
-            clear(out);
-            ListAnswer::Refused(x)
-        }
-    }
+    clear(entries, 0);
+    let answer = list_given(options, sheet, strings, body, entries.len(), out);
+    settle(answer, out);
+    answer
 }

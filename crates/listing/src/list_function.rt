@@ -1,92 +1,79 @@
 // Listing one function of an area.
 ghost use Rattle.std.specs.Prelude.{◌≡◌, [], ◌∷◌, length};
+ghost use Rattle.answers.specs.Answers.{answer_report};
 ghost use Rattle.answers.specs.Report.{cleared};
 ghost use Rattle.answers.specs.Outcome.{Ended};
 ghost use Rattle.spec_inputs.specs.Context.{context_from};
 ghost use Rattle.spec_listing.specs.Operation as operation;
+ghost use Rattle.operation.specs.Ends.{left_by};
 ghost use Rattle.operation.specs.Places.{located_of};
 ghost use Rattle.listing.specs.Parts.{options_of};
-ghost use Rattle.listing.specs.Answers.{list_report};
 ghost use Rattle.listing.specs.Functions.{area_of, function_under};
 
-use crate::answer::ListAnswer;
 use crate::options::Options;
-use operation::area::Located;
-use operation::inputs::Inputs;
-use slices::write::clear;
+use answers::failure::Answer;
+use operation::area::Area;
+use operation::ending::settle;
+use sheet::tables::Tables;
+use slices::clearing::clear;
+use strings::table::StringTable;
 
-// Lists a function under the tables of a sheet: 20 and 18 of its body, then as a body.
+// Lists a function under a sheet's tables: 20 and 18 of its body, then as a body. The output is left to settle.
 fn function_under(
     options: Options,
-    sheet: &[u8],
-    types: &[[u8; 8]; 256],
-    ops: &[[usize; 4]; 256],
+    tables: Tables<'_>,
     last: usize,
-    bytes: &[u8],
-    ends: &[u32],
-    functions: &[u32],
-    area: &[u8],
-    base: u32,
+    strings: StringTable<'_>,
+    area: Area<'_>,
     id: usize,
     lent: usize,
     out: &mut [u8],
-) -> ListAnswer
-    ensures { Ended (function_under (options_of options) area.now (located_of functions.now area.now base id) (context_from sheet.now types.now ops.now bytes.now ends.now) last) out.old (lent ∷ []) out.new (list_report result) }
+) -> Answer
+    ensures { Ended (function_under (options_of options) area.entry.bytes.now (located_of area.entry.functions.now area.entry.bytes.now area.entry.base id) (context_from tables.entry.text.now tables.entry.types.now tables.entry.ops.now strings.entry.bytes.now strings.entry.ends.now) last) out.old (lent ∷ []) (left_by result out.new) (answer_report result) }
 {
-    let place = operation::area::locate(functions, area, base, id);
-    match place {
-        Located::Inside(f) => {
-            let body = slices::part::part_of(area, f.start, f.size);
-            crate::list::list_under(
-                options, sheet, types, ops, last, bytes, ends, body, lent, out,
-            )
-        }
-        Located::Refused(x) => {
-            clear(out);
-            ListAnswer::Refused(x)
-        }
-    }
+    let f = area.locate(id)?;
+    let body = slices::part::part_of(area.bytes, f.start, f.size);
+    crate::list::list_read(options, tables, last, strings, body, lent, out)
 }
 
-// Lists one function of an area: `functions` are triples of offset, size and name id, and offsets count from `base`.
+// Reads the sheet and lists a function. The output is left to settle.
+fn function_given(
+    options: Options,
+    sheet: &[u8],
+    strings: StringTable<'_>,
+    area: Area<'_>,
+    id: usize,
+    lent: usize,
+    out: &mut [u8],
+) -> Answer
+    ensures { Ended (operation.list_function (options_of options) sheet.now strings.entry.bytes.now strings.entry.ends.now (area_of area.entry.functions.now area.entry.bytes.now area.entry.base) id) out.old (lent ∷ []) (left_by result out.new) (answer_report result) }
+{
+    let mut types = [[0u8; 8]; 256];
+    let mut ops = [[0usize; 4]; 256];
+    let last = operation::inputs::read_inputs(sheet, strings, &mut types, &mut ops)?;
+    let tables = Tables {
+        text: sheet,
+        types: &types,
+        ops: &ops,
+    };
+    function_under(options, tables, last, strings, area, id, lent, out)
+}
+
+// Lists one function of an area.
 pub fn list_function(
     options: Options,
     sheet: &[u8],
-    bytes: &[u8],
-    ends: &[u32],
-    functions: &[u32],
-    area: &[u8],
-    base: u32,
+    strings: StringTable<'_>,
+    area: Area<'_>,
     id: usize,
     out: &mut [u8],
     entries: &mut [u32],
-) -> ListAnswer
-    ensures ended { Ended (operation.list_function (options_of options) sheet.now bytes.now ends.now (area_of functions.now area.now base) id) out.old (length entries.old ∷ []) out.new (list_report result) }
+) -> Answer
+    ensures ended { Ended (operation.list_function (options_of options) sheet.now strings.entry.bytes.now strings.entry.ends.now (area_of area.entry.functions.now area.entry.bytes.now area.entry.base) id) out.old (length entries.old ∷ []) out.new (answer_report result) }
     ensures entries_after { entries.new ≡ cleared 0 entries.old }
 {
-    slices::clearing::clear_entries(entries);
-    let mut types = [[0u8; 8]; 256];
-    let mut ops = [[0usize; 4]; 256];
-    let i = operation::inputs::read_inputs(sheet, bytes, ends, &mut types, &mut ops);
-    match i {
-        Inputs::Ready(last) => function_under(
-            options,
-            sheet,
-            &types,
-            &ops,
-            last,
-            bytes,
-            ends,
-            functions,
-            area,
-            base,
-            id,
-            entries.len(),
-            out,
-        ),
-        Inputs::Refused(x) => {
-            clear(out);
-            ListAnswer::Refused(x)
-        }
-    }
+    clear(entries, 0);
+    let answer = function_given(options, sheet, strings, area, id, entries.len(), out);
+    settle(answer, out);
+    answer
 }

@@ -1,5 +1,7 @@
 use native.Mathlib.Omega.{arith}
 use mathlib.Core.Path.{◌∙◌}
+use lib.ListN.{get_or}
+use Prim.Native.Nat.{◌<◌}
 use Rattle.list_labels.proofs.WalkLoop.{start, ended, stopped, broken, turn}
 use borrow.Author.Rules.{rules}
 use Rattle.list_labels.proofs.collect.walk.Goals as goal
@@ -7,25 +9,16 @@ use Rattle.list_labels.proofs.collect.walk.Goals as goal
 pub loop-at-init : goal.loop-at-init
 loop-at-init c = start _ _ _ _ _ _ _
 
-pub overflow_cast-op : goal.overflow_cast-op
-overflow_cast-op c = omega (arith, c.shared_slice_known-in-loop-at-1.given c.loop-at.at)
+pub shape_of-flags-then-body-op : goal.shape_of-flags-then-body-op
+shape_of-flags-then-body-op c = c.loop-at.invariant.same_flags
 
-pub shape_of-flags-then-last-op : goal.shape_of-flags-then-last-op
-shape_of-flags-then-last-op c = c.loop-at.invariant.same_flags
+pub shape_of-stored-then-body-op : goal.shape_of-stored-then-body-op
+shape_of-stored-then-body-op c = c.loop-at.invariant.same_stored
 
-pub shape_of-stored-then-last-op : goal.shape_of-stored-then-last-op
-shape_of-stored-then-last-op c = c.loop-at.invariant.same_stored
-
-pub returns-then-last-op : goal.returns-then-last-op
-returns-then-last-op c =
-    let r = stopped _ _ _ _ _ _ c.loop-at.invariant c.loop-at-test.true c.if-last-op.true in
+pub returns-then-body-op : goal.returns-then-body-op
+returns-then-body-op c =
+    let r = stopped _ _ _ _ _ _ c.loop-at.invariant c.loop-at-test.true c.if-body-op.true in
     record { value = r.answered; noted = r.left_noted }
-
-pub offset_bounds-rows-op : goal.offset_bounds-rows-op
-offset_bounds-rows-op c = omega (arith, c.shared_slice_known-in-loop-at-1.given c.loop-at.at)
-
-pub bounds-rows-op : goal.bounds-rows-op
-bounds-rows-op c = (c.shared_slice_known-in-loop-at-1.given c.loop-at.at).fits
 
 pub shape_of-flags-then-s-at : goal.shape_of-flags-then-s-at
 shape_of-flags-then-s-at c = c.loop-at.invariant.same_flags
@@ -36,34 +29,32 @@ shape_of-stored-then-s-at c = c.loop-at.invariant.same_stored
 pub returns-then-s-at : goal.returns-then-s-at
 returns-then-s-at c =
     let l = c.loop-at in
-    let z = c.byte_index-size.ensures ∙ (c.requires.1 _ (c.shared_slice_known-in-loop-at-1.given l.at).fits c.if-last-op.false).size in
-    let r = broken _ _ _ _ _ _ l.invariant c.loop-at-test.true c.if-last-op.false _ z c.if-s-at.true in
+    let h : get_or c.args.body.bytes.now l.at 0 < 256 = search rules in
+    let z = c.byte_index-size.ensures ∙ (c.args.body.fit _ h c.if-body-op.false).size in
+    let r = broken _ _ _ _ _ _ l.invariant c.loop-at-test.true c.if-body-op.false _ z c.if-s-at.true in
     record { value = r.answered; noted = r.left_noted }
-
-pub offset_bounds-types-op : goal.offset_bounds-types-op
-offset_bounds-types-op c = omega (arith, c.shared_slice_known-in-loop-at-1.given c.loop-at.at)
-
-pub bounds-types-op : goal.bounds-types-op
-bounds-types-op c = (c.shared_slice_known-in-loop-at-1.given c.loop-at.at).fits
 
 pub note_instruction-counts-requires : goal.note_instruction-counts-requires
 note_instruction-counts-requires c =
     let l = c.loop-at in
-    let f = (c.requires.1 _ (c.shared_slice_known-in-loop-at-1.given l.at).fits c.if-last-op.false) in
+    let h : get_or c.args.body.bytes.now l.at 0 < 256 = search rules in
+    let f = c.args.body.fit _ h c.if-body-op.false in
     (c.byte_index-size.ensures ∙ f.size, search rules, search rules, search rules, f)
 
 pub loop-at-smaller : goal.loop-at-smaller
 loop-at-smaller c =
     let l = c.loop-at in
-    let z = c.byte_index-size.ensures ∙ (c.requires.1 _ (c.shared_slice_known-in-loop-at-1.given l.at).fits c.if-last-op.false).size in
+    let h : get_or c.args.body.bytes.now l.at 0 < 256 = search rules in
+    let z = c.byte_index-size.ensures ∙ (c.args.body.fit _ h c.if-body-op.false).size in
     omega (arith, z, c.loop-at-test.true, c.if-s-at.false)
 
 pub loop-at-preserved : goal.loop-at-preserved
 loop-at-preserved c =
     let l = c.loop-at in
+    let h : get_or c.args.body.bytes.now l.at 0 < 256 = search rules in
     let w = c.note_instruction-counts in
-    let z = c.byte_index-size.ensures ∙ (c.requires.1 _ (c.shared_slice_known-in-loop-at-1.given l.at).fits c.if-last-op.false).size in
-    turn _ _ _ _ _ _ l.invariant c.loop-at-test.true c.if-last-op.false _ z _ c.if-s-at.false w.auto.flags w.auto.stored w.ensures.result_after w.ensures.far_bound
+    let z = c.byte_index-size.ensures ∙ (c.args.body.fit _ h c.if-body-op.false).size in
+    turn _ _ _ _ _ _ l.invariant c.loop-at-test.true c.if-body-op.false _ z _ c.if-s-at.false w.auto.flags w.auto.stored w.ensures.result_after w.ensures.far_bound
 
 pub shape_of-flags : goal.shape_of-flags
 shape_of-flags c = c.loop-at.invariant.same_flags

@@ -1,10 +1,5 @@
 use Rattle.list_labels.proofs.PartLoop.{Going}
-use lib.ListN.{length}
-use Prim.Native.Nat.{◌-◌}
 use Rattle.list_labels.proofs.distinct.part.Given as goal
 
 abbrev pub invariant-loop-i : goal.invariant-loop-i
 invariant-loop-i l = Going l.bound l.initial.a l.initial.spare l.a l.spare l.n l.i
-
-abbrev pub decreases-loop-i : goal.decreases-loop-i
-decreases-loop-i l = length l.initial.a - l.i

@@ -1,19 +1,22 @@
-use mathlib.Core.Path.{refl}
+use Rattle.std.proofs.lemmas.Result.{err_from_is_err_and}
+use Rattle.std.specs.Prelude.{Err}
+use mathlib.Core.Path.{refl, ap, sym, ◌∙◌}
 use Rattle.listing.proofs.FunctionLaws.{part_size}
 use Rattle.list_module.specs.Modules.{list_located}
 use Rattle.listing.specs.Bodies.Written.{stopped}
 use Rattle.list_module.proofs.function_part.list_located.Goals as goal
 
+pub returns-in_err-f : goal.returns-in_err-f
+unfolding list_located
+returns-in_err-f c =
+    let p = err_from_is_err_and c.from_residual.result c.from_residual.ensures.1 in
+    rw (sym c.locate.ensures.value ∙ c.in_err-f.was) (stopped _ refl (p.1 ∙ ap Err p.2))
+
 pub list_titled-requires : goal.list_titled-requires
 list_titled-requires c =
-    record { opcode_rows = c.requires.opcode_rows; s_len_bound = (part_size c.args.area.now c.in-Inside.f.start c.in-Inside.f.size c.part_of-body.ensures (c.requires.within.0 _ c.in-Inside.is).1, c.requires.within.1) }
+    let f = c.in_ok-f.f in
+    (part_size c.args.area.bytes.now f.start f.size c.part_of-body.ensures (c.locate.ensures.within _ c.in_ok-f.was).1, c.requires)
 
-pub returns-in-Inside : goal.returns-in-Inside
+pub returns : goal.returns
 unfolding list_located
-returns-in-Inside c = rw c.in-Inside.is (rw c.part_of-body.ensures at c.list_titled.ensures)
-
-pub returns-in-Refused : goal.returns-in-Refused
-unfolding list_located
-returns-in-Refused c =
-    let f = c.refuse_part.ensures in
-    rw c.in-Refused.is (stopped _ refl f.value f.out_after)
+returns c = rw (sym c.locate.ensures.value ∙ c.in_ok-f.was) (rw c.part_of-body.ensures at c.list_titled.ensures)

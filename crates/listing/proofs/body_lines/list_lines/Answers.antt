@@ -1,27 +1,20 @@
-use Rattle.listing.proofs.LinesLoop.{given, records_are, start, inside, known, roomy, stopped, turn, finished, words_rise, fits_next, less_next}
+use Rattle.listing.proofs.LinesLoop.{given, records_are, start, inside, known, roomy, stopped, turn, finished, rows_are, words_rise, fits_next, less_next}
 use Rattle.listing.specs.Parts.Lined.{all, over}
 use Rattle.lists.proofs.Aheads.{as_words, ◌and_words◌}
 use Rattle.lists.proofs.Writes.{kept_length}
 use native.Mathlib.Numerals.{unary_clauses}
 use native.Mathlib.Omega.{arith}
 use mathlib.Core.Path.{refl, ◌∙◌}
+use lib.ListN.{get_or}
+use Prim.Native.Nat.{◌<◌}
 use borrow.Author.Rules.{rules}
 use Rattle.listing.proofs.body_lines.list_lines.Goals as goal
 
 pub loop-at-init : goal.loop-at-init
-loop-at-init c = start _ (records_are _ _ _ c.requires.decodes.0) (omega arith) (omega arith) (search rules)
+loop-at-init c = start _ (records_are _ _ _ c.requires.decodes) (omega arith) (omega arith) (search rules)
 
 pub make_room-gathered-requires : goal.make_room-gathered-requires
 make_room-gathered-requires c = omega (arith, c.loop-at.invariant.held, c.loop-at.invariant.size)
-
-pub overflow_cast-op : goal.overflow_cast-op
-overflow_cast-op c = omega (arith, c.shared_slice_known-in-loop-at-1.given c.loop-at.at)
-
-pub offset_bounds-rows-op : goal.offset_bounds-rows-op
-offset_bounds-rows-op c = omega (arith, c.shared_slice_known-in-loop-at-1.given c.loop-at.at)
-
-pub bounds-rows-op : goal.bounds-rows-op
-bounds-rows-op c = (c.shared_slice_known-in-loop-at-1.given c.loop-at.at).fits
 
 pub put_flagged_label-a-requires : goal.put_flagged_label-a-requires
 put_flagged_label-a-requires c = (omega (arith, c.requires.s_in_bounds.0, c.loop-at-test.true), omega (arith, c.requires.s_in_bounds.1, c.loop-at-test.true))
@@ -45,14 +38,16 @@ overflow_add-at c =
     let l = c.loop-at in
     let h = c.loop-at-test.true in
     let q = c.requires in
-    let z = c.byte_index-size.ensures ∙ (q.decodes.1 _ (c.shared_slice_known-in-loop-at-1.given l.at).fits (known l.invariant h)).size in
+    let b : get_or c.args.s.now l.at 0 < 256 = search rules in
+    let z = c.byte_index-size.ensures ∙ (rows_are c.args.lister.now _ b (known l.invariant h)).size in
     record { fits = fits_next _ _ _ (rw z (inside l.invariant h)) q.s_in_bounds.1 }
 
 pub loop-at-smaller : goal.loop-at-smaller
 loop-at-smaller c =
     let l = c.loop-at in
     let h = c.loop-at-test.true in
-    let z = c.byte_index-size.ensures ∙ (c.requires.decodes.1 _ (c.shared_slice_known-in-loop-at-1.given l.at).fits (known l.invariant h)).size in
+    let b : get_or c.args.s.now l.at 0 < 256 = search rules in
+    let z = c.byte_index-size.ensures ∙ (rows_are c.args.lister.now _ b (known l.invariant h)).size in
     less_next _ _ _ h (rw z (omega arith))
 
 pub loop-at-preserved : goal.loop-at-preserved
@@ -60,7 +55,8 @@ loop-at-preserved c =
     let l = c.loop-at in
     let h = c.loop-at-test.true in
     let q = c.requires in
-    let z = c.byte_index-size.ensures ∙ (q.decodes.1 _ (c.shared_slice_known-in-loop-at-1.given l.at).fits (known l.invariant h)).size in
+    let b : get_or c.args.s.now l.at 0 < 256 = search rules in
+    let z = c.byte_index-size.ensures ∙ (rows_are c.args.lister.now _ b (known l.invariant h)).size in
     let room = roomy l.invariant c.make_room-gathered.ensures in
     turn room.1 (given _ q.flagged q.s_in_bounds) room.0 (record { b₁ = _; label_put = c.put_flagged_label-a.ensures; b₂ = _; b = _; indent_put = c.put_bytes-b.ensures; text_put = c.put_instruction-c.ensures }) h c.if-c-a-gt-LINE_LIMIT.false c.put_byte-n.ensures z
 

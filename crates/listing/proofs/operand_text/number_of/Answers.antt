@@ -1,10 +1,17 @@
-use borrow.Author.Tests.{eq-eqb, ne_eqb}
+use Rattle.sheet.specs.Families.{family_number}
+use Rattle.listing.proofs.OperandLaws.{no_addr}
+use borrow.Author.Tests.{eq-eqb}
 use native.Mathlib.Omega.{arith}
-use mathlib.Core.Path.{refl}
+use mathlib.Core.Path.{refl, sym, ◌∙◌}
 use Rattle.listing.proofs.operand_text.number_of.Goals as goal
 
-pub returns-then-family-eq-ADDR_FAMILY : goal.returns-then-family-eq-ADDR_FAMILY
-returns-then-family-eq-ADDR_FAMILY c = (rw (eq-eqb _ 4 c.if-family-eq-ADDR_FAMILY.true) c.target_of.ensures, omega arith)
+pub target_of-requires : goal.target_of-requires
+unfolding family_number
+target_of-requires c = let q = c.requires in (q.0, sym q.1 ∙ rw c.in-Addr.is refl, q.2)
 
-pub returns : goal.returns
-returns c = (rw (ne_eqb _ 4 c.if-family-eq-ADDR_FAMILY.false) refl, c.requires.3)
+pub returns-in-Addr : goal.returns-in-Addr
+unfolding family_number
+returns-in-Addr c = (rw (eq-eqb _ 4 (sym c.requires.1 ∙ rw c.in-Addr.is refl)) c.target_of.ensures, omega arith)
+
+pub returns-in_default : goal.returns-in_default
+returns-in_default c = (rw (sym c.requires.1, no_addr c.args.family c.in_default.not-Addr) refl, c.requires.3)

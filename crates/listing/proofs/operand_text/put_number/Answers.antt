@@ -1,5 +1,6 @@
 use native.Mathlib.Omega.{arith}
 use Rattle.lists.proofs.Aheads.{same_ahead, ◌and_words◌}
+use Rattle.sheet.specs.Families.{family_number}
 use Rattle.listing.specs.Numbers.{front_text, value_text}
 use Rattle.listing.proofs.operand_text.put_number.Goals as goal
 
@@ -9,6 +10,5 @@ put_word-a-requires c = omega (arith, c.front_size.ensures.1)
 pub returns : goal.returns
 unfolding value_text
 returns c =
-    let family = c.args.family in
-    let p = same_ahead {t = front_text family} (rw c.front_size.ensures.0 c.front_byte.ensures) c.put_word-a.ensures in
-    p and_words c.put_signed.ensures
+    let p = same_ahead {t = front_text (family_number c.args.family)} (rw c.front_size.ensures.0 c.front_byte.ensures) c.put_word-a.ensures in
+    p and_words (rw c.is_signed.ensures at c.put_signed.ensures)

@@ -9,18 +9,18 @@ put_decimal-requires c = omega (arith, c.requires)
 
 pub returns-in_default : goal.returns-in_default
 returns-in_default c =
-    let a = c.args in
-    same_ahead (rw c.if-texts.true (id_missing a.bytes.now a.ends.now a.id (sym c.string_at-found.ensures ∙ c.in_default.is))) c.put_decimal.ensures
+    let s = c.args.lister.now.strings in
+    same_ahead (rw c.if-lister.true (id_missing s.bytes.now s.ends.now c.args.id (sym c.string_at.ensures ∙ c.in_default.is))) c.put_decimal.ensures
 
-pub returns-then-texts : goal.returns-then-texts
-returns-then-texts c =
-    let a = c.args in
-    same_ahead (rw (c.if-texts.true, c.entry_part-entry.ensures) (id_quoted a.bytes.now a.ends.now a.id _ _ (sym c.string_at-found.ensures ∙ c.in-Text.is))) (as_words c.put_quoted.ensures)
+pub returns-then-lister : goal.returns-then-lister
+returns-then-lister c =
+    let s = c.args.lister.now.strings in
+    same_ahead (rw (c.if-lister.true, c.part.ensures) (id_quoted s.bytes.now s.ends.now c.args.id _ (sym c.string_at.ensures ∙ c.in-Some.is))) (as_words c.put_quoted.ensures)
 
 pub put_decimal-requires-2 : goal.put_decimal-requires-2
 put_decimal-requires-2 c = omega (arith, c.requires)
 
 pub returns : goal.returns
 returns c =
-    let a = c.args in
-    same_ahead (rw c.if-texts.false (id_hidden a.bytes.now a.ends.now a.id)) c.put_decimal-2.ensures
+    let s = c.args.lister.now.strings in
+    same_ahead (rw c.if-lister.false (id_hidden s.bytes.now s.ends.now c.args.id)) c.put_decimal-2.ensures

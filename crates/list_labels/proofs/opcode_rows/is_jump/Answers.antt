@@ -1,8 +1,0 @@
-use borrow.Author.Tests.{eq-eqb, ne_eqb}
-use Rattle.list_labels.proofs.opcode_rows.is_jump.Goals as goal
-
-pub returns-then-mark-eq1 : goal.returns-then-mark-eq1
-returns-then-mark-eq1 c = rw (eq-eqb _ 1 c.if-mark-eq1.true) c.has_addr.ensures
-
-pub returns : goal.returns
-returns c = rw (ne_eqb _ 1 c.if-mark-eq1.false)

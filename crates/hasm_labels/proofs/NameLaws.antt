@@ -44,17 +44,17 @@ found_in_lem o = refl
 
 -- the instruction s on line n: its name ends at k, and the operands behind it start at a
 module _ (e : Context) (n : ℕ) (s : List ℕ) (k : ℕ) (p : k ≡ 0 + run is_solid s) where
-  name_is : instruction_name s ≡ take (k - 0) s
+  name_is : instruction_name s ≡ take k s
   unfolding instruction_name
-  name_is = let z : run is_solid s ≡ k - 0 = omega (arith, p) in rw z
+  name_is = let z : run is_solid s ≡ k = omega (arith, p) in rw z
 
-  pub name_unknown : None ≡ found_of (opcode_named e (take (k - 0) s)) → RefusedBy e n s (UnknownName n)
+  pub name_unknown : None ≡ found_of (opcode_named e (take k s)) → RefusedBy e n s (UnknownName n)
   unfolding unless_bad_name on_name
-  name_unknown f labels cs rest = rw (name_is, was_missing (opcode_named e (take (k - 0) s)) (sym f))
+  name_unknown f labels cs rest = rw (name_is, was_missing (opcode_named e (take k s)) (sym f))
 
-  module _ (o : ℕ) (f : Some o ≡ found_of (opcode_named e (take (k - 0) s))) (a : ℕ) (q : a ≡ k + run is_white (drop k s)) where
+  module _ (o : ℕ) (f : Some o ≡ found_of (opcode_named e (take k s))) (a : ℕ) (q : a ≡ k + run is_white (drop k s)) where
     named : opcode_named e (instruction_name s) ≡ found o
-    named = rw name_is (was_at (opcode_named e (take (k - 0) s)) (sym f))
+    named = rw name_is (was_at (opcode_named e (take k s)) (sym f))
 
     counted : (given : ℕ) → given ≡ length (tokens (split_outside (take (length s - a) (drop a s)))) → length (instruction_operands s) ≡ given
     unfolding instruction_operands

@@ -42,6 +42,7 @@ pub(crate) fn at_start() -> Progress
 }
 
 // Stores a label whose text is s behind the `kept` ones that are stored, if it is long. Answers how many long ones there are.
+#[tactic(auto, using(crate::proofs::LongLaws::is_long_lem, crate::proofs::LongLaws::is_short))]
 fn keep_label(labels: &mut [Slot], s: &[u8], l: LabelPlace, kept: usize) -> usize
     requires { (l.start < 4294967296) × (l.size < 4294967296) × (l.offset < 4294967296) × (kept < 4294967295) }
     ensures { (result ≡ pick (is_long s.now) (kept + 1) kept) × (labels.new ≡ pick (is_long s.now) (set labels.old kept (l.start ∷ l.size ∷ l.offset ∷ [])) labels.old) }

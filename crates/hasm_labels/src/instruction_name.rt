@@ -16,7 +16,7 @@ pub(crate) fn read_name(s: &[u8], n: usize, source: Source<'_>) -> Result<usize,
     ensures { (bytes ends : List ℕ) → NameRead (context_of source.entry bytes ends) n s.now result }
 {
     let k = word_end(s, 0);
-    let Some(opcode) = source.names().find(&s[0..k]) else {
+    let Some(opcode) = source.names().find(&s[..k]) else {
         return Err(Refusal::UnknownName(n));
     };
     // An opcode that was found has a row. Lent as a slice, the array tells the proof that there are 256 rows.

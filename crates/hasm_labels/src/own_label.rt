@@ -22,6 +22,7 @@ fn label_size(text: &[u8], start: usize) -> usize
     text.iter().skip(start).take_while(|&&b| b != COLON).count()
 }
 
+#[tactic(auto, using(lists::proofs::Links::run_prefix))]
 pub(crate) fn label_of_word(text: &[u8], word: u64) -> LabelPlace
     ensures { label_of text.now result ≡ label_of_word text.now word }
 {

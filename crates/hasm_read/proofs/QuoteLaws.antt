@@ -36,3 +36,6 @@ module _ (s : List ℕ) (i : ℕ) where
     pub later_quote : (i ≡ 0 → ⊥) → quote_at escapes s i ≡ not (eqb (get_or s (i - 1) 0) 92)
     unfolding is_quote
     later_quote z = rw (e, eq-eqb (get_or s i 0) 34 h, before_last z)
+
+-- for the test for a quote
+pub ruleset quote_laws = (no_quote, plain_quote, first_quote, later_quote)

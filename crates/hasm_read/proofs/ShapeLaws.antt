@@ -4,12 +4,13 @@ use mathlib.Core.Bool.{Bool, true, false}
 use Prim.Native.Nat.{ℕ, ◌-◌, ◌<◌}
 use native.Mathlib.Omega.{arith}
 use mathlib.Core.List.{List, [], ◌∷◌}
-use borrow.Author.Tests.{eq-eqb, ne_eqb, eqb-true, eqb-false}
+use borrow.Author.Tests.{eq-eqb, ne_eqb}
 use lib.Dec.{eqb}
 use lib.ListN.{length, get_or}
 use Rattle.lists.specs.Choice.{either}
 use Rattle.lists.specs.Scan.{all, opens, part}
 use Rattle.lists.specs.Text.{text}
+use Rattle.lists.proofs.Links.{opens_starts, all_list}
 use Rattle.lists.proofs.Tests.{by_eqb, both_no_right, both_no_left}
 use Rattle.spec_sheet.specs.Scan.{is_digit}
 use Rattle.spec_hasm.specs.Line.{is_skipped, is_label}
@@ -24,12 +25,6 @@ opens_first a p (b ∷ s) h = rw (ne_eqb a b (λ e. h (sym e)))
 either_false : (b : Bool) → either b false ≡ b
 either_false true = refl
 either_false false = refl
-
-pub is_zero : (n : ℕ) → eqb n 0 ≡ true → n ≡ 0
-is_zero n e = eqb-true n 0 e
-
-pub not_empty : (s : List ℕ) → eqb (length s) 0 ≡ false → length s ≡ 0 → ⊥
-not_empty s e = eqb-false (length s) 0 e
 
 pub skip_empty : (s : List ℕ) → length s ≡ 0 → is_skipped s ≡ true
 unfolding is_skipped
@@ -94,3 +89,8 @@ module _ (s : List ℕ) where
   pub label_digits : get_or s 0 0 ≡ 76 → get_or s (length s - 1) 0 ≡ 58 → is_label s ≡ all is_digit (part s 1 (length s - 1 - 1))
   unfolding is_label
   label_digits e f = rw (eq-eqb (get_or s 0 0) 76 e, eq-eqb (get_or s (length s - 1) 0) 58 f, drop_take 1 (length s - 1) s)
+
+-- for the tests of a line
+pub ruleset skip_laws = (opens_starts, skip_empty, skip_function, skip_note, skip_banner, skip_other)
+
+pub ruleset label_laws = (all_list, label_short, label_first, label_last, label_digits)

@@ -26,15 +26,13 @@ record Cut (line : List ℕ) (a n : ℕ) (s : List ℕ) : Type 0 where
   room : a + n ≤ length line
 
 -- the places that a scan finds: the comment at c, the end a of the white space in front, and the length n without that behind
-cut_at : (line : List ℕ) (c a n : ℕ) → (c ≡ outside 0 line) × (c ≤ length line) → (a ≡ 0 + run is_white (take (c - 0) line)) × (a ≤ length (take (c - 0) line))
+cut_at : (line : List ℕ) (c a n : ℕ) → (c ≡ outside 0 line) × (c ≤ length line) → (a ≡ 0 + run is_white (take c line)) × (a ≤ length (take c line))
     → (n ≡ solid_length (part line a (c - a))) × (n ≤ length (part line a (c - a))) → Cut line a n (part line a (a + n - a))
 unfolding trim
 cut_at line c a n p q r =
-    let z : c - 0 ≡ c = omega arith in
     let y : a + n - a ≡ n = omega arith in
-    let g : (a ≡ 0 + run is_white (take c line)) × (a ≤ length (take c line)) = rw z at q in
-    let f : run is_white (take c line) ≡ a = omega (arith, g.0) in
-    let i : a ≤ c = omega (arith, g.1, length-take-le c line p.1) in
+    let f : run is_white (take c line) ≡ a = omega (arith, q.0) in
+    let i : a ≤ c = omega (arith, q.1, length-take-le c line p.1) in
     let j : n ≤ c - a = omega (arith, r.1, part_length line a (c - a) (omega (arith, i, p.1))) in
     record { text = rw (sym p.0, f, drop_take a c line, sym r.0, y) (take-take n (c - a) (drop a line) j); shown = rw y; room = omega (arith, i, j, p.1) }
 
@@ -65,7 +63,7 @@ module _ (line : List ℕ) (a n : ℕ) (s : List ℕ) (h : Cut line a n s) where
         code (a + m) (a + n) (rw (h.text, t, l, b, h.shown, drop_take m n (drop a line), drop-drop m a line, z)) refl (omega (arith, f)) h.room
 
 -- by what a scan found: the comment at c, the white space up to a, and n bytes without that at the end
-module _ (line : List ℕ) (c a n : ℕ) (p : (c ≡ outside 0 line) × (c ≤ length line)) (q : (a ≡ 0 + run is_white (take (c - 0) line)) × (a ≤ length (take (c - 0) line)))
+module _ (line : List ℕ) (c a n : ℕ) (p : (c ≡ outside 0 line) × (c ≤ length line)) (q : (a ≡ 0 + run is_white (take c line)) × (a ≤ length (take c line)))
     (r : (n ≡ solid_length (part line a (c - a))) × (n ≤ length (part line a (c - a)))) where
   abbrev cut_text : List ℕ
   cut_text = part line a (a + n - a)

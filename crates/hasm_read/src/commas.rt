@@ -25,6 +25,7 @@ impl Scan for Commas {
 }
 
 // Where the first comma outside quotes stands, or the end, from a place outside quotes on, on a line within 3's limit.
+#[tactic(auto, using(crate::proofs::ScanLaws::comma_scan))]
 pub fn comma_from(s: &[u8], at: usize) -> usize
     requires at_in_bounds { at ≤ length s.now }
     requires s_len_bound { length s.now ≤ line_limit }
@@ -44,10 +45,7 @@ pub fn count_operands(s: &[u8]) -> usize
         let k = comma_from(s, at);
         if s.len() <= k {
             let last = trim(&s[at..]);
-            if last.len() == 0 {
-                return n;
-            }
-            return n + 1;
+            return if last.is_empty() { n } else { n + 1 };
         }
         at = k + 1;
         n += 1;

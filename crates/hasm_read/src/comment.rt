@@ -32,6 +32,7 @@ fn is_comment_at(s: &[u8], i: usize) -> bool
 }
 
 // How many bytes stand before the comment.
+#[tactic(auto, using(crate::proofs::ScanLaws::comment_scan))]
 pub(crate) fn comment_start(s: &[u8]) -> usize
     requires { length s.now ≤ line_limit }
     ensures { (result ≡ outside 0 s.now) × (result ≤ length s.now) }

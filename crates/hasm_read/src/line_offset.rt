@@ -13,6 +13,7 @@ use numbers::parse::digit_value;
 use sheet::name_index::Names;
 
 // How many bytes `0x` or `0X` take, where one opens s.
+#[tactic(auto, using(crate::proofs::MarkLaws::prefix_length))]
 fn prefix_length(s: &[u8]) -> usize
     ensures { (result ≡ pick (has_hex_prefix s.now) 2 0) × (result ≤ length s.now) }
 {
@@ -28,6 +29,7 @@ fn hex_length(s: &[u8]) -> usize
 }
 
 // The end of the hex digits at `at`.
+#[tactic(auto, using(crate::proofs::RunLaws::run_at))]
 fn hex_end(s: &[u8], at: usize) -> usize
     requires { at ≤ length s.now }
     ensures { (result ≡ at + run is_hex_digit (drop at s.now)) × (result ≤ length s.now) }

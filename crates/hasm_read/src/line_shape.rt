@@ -8,6 +8,7 @@ ghost use Rattle.spec_hasm.specs.Line.{is_skipped, is_label};
 use slices::compare::is_within;
 
 // An empty line or a banner. Most lines are neither, so the first byte is looked at before a text is compared.
+#[tactic(auto, using(crate::proofs::ShapeLaws::skip_laws), unfolding(lists::specs::Text::text))]
 pub(crate) fn is_skipped(s: &[u8]) -> bool
     ensures { result ≡ is_skipped s.now }
 {
@@ -29,6 +30,7 @@ fn all_digits(s: &[u8]) -> bool
 }
 
 // `L`, digits or none, and a colon.
+#[tactic(auto, using(crate::proofs::ShapeLaws::label_laws))]
 pub(crate) fn is_label(s: &[u8]) -> bool
     ensures { result ≡ is_label s.now }
 {

@@ -18,6 +18,7 @@ fn feed_distance(s: &[u8]) -> usize
 }
 
 // Where the next LF stands, or the end.
+#[tactic(auto, using(crate::proofs::RunLaws::run_at))]
 pub fn line_end(s: &[u8], at: usize) -> usize
     requires { at ≤ length s.now }
     ensures { (result ≡ at + run not_feed (drop at s.now)) × (result ≤ length s.now) }
@@ -26,19 +27,15 @@ pub fn line_end(s: &[u8], at: usize) -> usize
 }
 
 // How many bytes the line has, without a CR where an LF follows.
+#[tactic(auto, unfolding(crate::specs::Lines::line_length))]
 fn line_length(s: &[u8], at: usize, end: usize) -> usize
     ensures { result ≡ line_length s.now at end }
 {
-    if end <= at {
-        return 0;
+    let size = end.saturating_sub(at);
+    if at < end && end < s.len() && s[end - 1] == b'\r' {
+        return size - 1;
     }
-    if s.len() <= end {
-        return end - at;
-    }
-    if s[end - 1] == 13 {
-        return end - at - 1;
-    }
-    end - at
+    size
 }
 
 // The line from `at` to its end.

@@ -4,6 +4,7 @@ ghost use Rattle.limits.specs.Limits.{line_limit};
 ghost use Rattle.hasm_read.specs.Quotes.{byte_before, quote_at, outside_by, inside_by};
 
 // Whether a quote stands at i. The byte before is looked at only behind a quote, as most bytes are none.
+#[tactic(auto, using(crate::proofs::QuoteLaws::quote_laws))]
 pub(crate) fn is_quote_at(s: &[u8], i: usize, escapes: bool) -> bool
     requires { i < length s.now }
     ensures { result ≡ quote_at escapes s.now i }

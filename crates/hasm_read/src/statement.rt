@@ -31,7 +31,7 @@ pub fn read_statement(line: &[u8], names: Names<'_>) -> Statement
         return Statement::Label(0, size);
     }
     let c = comment_start(line);
-    let a = white_end(&line[0..c], 0);
+    let a = white_end(&line[..c], 0);
     let n = solid_length(&line[a..c]);
     let s = &line[a..a + n];
     if is_skipped(s) {

@@ -38,6 +38,7 @@ fn white_behind(s: &[u8]) -> usize
 }
 
 // The end of the white space at `at`.
+#[tactic(auto, using(crate::proofs::RunLaws::run_at))]
 pub fn white_end(s: &[u8], at: usize) -> usize
     requires { at ≤ length s.now }
     ensures { (result ≡ at + run is_white (drop at s.now)) × (result ≤ length s.now) }
@@ -46,6 +47,7 @@ pub fn white_end(s: &[u8], at: usize) -> usize
 }
 
 // The end of the word at `at`.
+#[tactic(auto, using(crate::proofs::RunLaws::run_at))]
 pub fn word_end(s: &[u8], at: usize) -> usize
     requires { at ≤ length s.now }
     ensures { (result ≡ at + run is_solid (drop at s.now)) × (result ≤ length s.now) }
@@ -54,12 +56,14 @@ pub fn word_end(s: &[u8], at: usize) -> usize
 }
 
 // How many bytes there are without the white space at the end.
+#[tactic(auto, using(crate::proofs::WhiteLaws::solid_is))]
 pub(crate) fn solid_length(s: &[u8]) -> usize
     ensures { (result ≡ solid_length s.now) × (result ≤ length s.now) }
 {
     s.len() - white_behind(s)
 }
 
+#[tactic(auto, using(crate::proofs::WhiteLaws::trim_is))]
 pub fn trim(s: &[u8]) -> &[u8]
     ensures { result.now ≡ definition.trim s.now }
 {

@@ -1,16 +1,12 @@
-use mathlib.Core.Path.{◌≡◌, refl, ap, ◌∙◌}
+use mathlib.Core.Path.{refl, ap, ◌∙◌}
 use mathlib.Core.Bool.{false}
 use native.Mathlib.Omega.{arith}
 use borrow.Author.Tests.{not-false}
-use Rattle.lists.proofs.Tests.{true_not_false}
 use Rattle.hash_index.specs.Hash.{bucket_of}
 use Rattle.hasm_labels.specs.Keys.{KeyPut}
 use Rattle.hasm_labels.proofs.LabelLaws.{labels_none}
 use Rattle.hasm_labels.proofs.LabelWalk.{indexed_none, slot_heads, slot_more}
 use Rattle.hasm_labels.proofs.label_index.index_slots.Goals as goal
-
-pub returns-then-not-has_room : goal.returns-then-not-has_room
-returns-then-not-has_room c = λ e. true_not_false false e refl
 
 pub loop-k-init : goal.loop-k-init
 loop-k-init c =
@@ -40,10 +36,3 @@ loop-k-preserved c =
     let b = h.ensures.0 ∙ ap (bucket_of a.m) c.label_text-s.ensures in
     let put : KeyPut a.m h.result l.k 0 l.index _ = record { bucket = h.ensures.1; room = omega (arith, room.0, e, t); small = omega arith; put = s.ensures } in
     (slot_more a.text.now a.labels.now l.index a.m l.k l.invariant.0 (omega (arith, c.requires.0, t)) _ (omega (arith, c.requires.0, t)) (rw b at put), s.auto.index ∙ l.invariant.1)
-
-pub returns : goal.returns
-returns c =
-    let l = c.loop-k in
-    let a = c.args in
-    let z : l.k ≡ a.n = omega arith in
-    λ e. rw z at l.invariant.0

@@ -32,12 +32,6 @@ returns-in-Err c =
     let t = c.take_line in
     λ bytes ends. (rw c.in-Err.is at (t.ensures bytes ends a.labels.now (l.invariant.0 bytes ends).going), rw (t.auto.labels, l.invariant.1) at c.clear.ensures)
 
-pub overflow_add-at : goal.overflow_add-at
-overflow_add-at c = omega (arith, c.line_end-end.ensures.1, c.args.source.limited)
-
-pub overflow_add-n : goal.overflow_add-n
-overflow_add-n c = omega (arith, (c.loop-at.invariant.0 [] []).going.few, c.loop-at-test.true, c.args.source.limited)
-
 pub loop-at-preserved : goal.loop-at-preserved
 loop-at-preserved c =
     let l = c.loop-at in
@@ -49,3 +43,6 @@ pub returns : goal.returns
 returns c =
     let l = c.loop-at in
     λ bytes ends. owning_end (l.invariant.0 bytes ends) c.loop-at-test.false c.args.source.limited
+
+pub overflow_add-n : goal.overflow_add-n
+overflow_add-n c = omega (arith, (c.loop-at.invariant.0 [] []).going.few, c.loop-at-test.true, c.args.source.limited)

@@ -9,28 +9,10 @@ use Rattle.hasm_labels.specs.Keys.{bucket_at}
 use Rattle.hasm_labels.proofs.LabelWalk.{label_start, label_found, label_next, label_nowhere}
 use Rattle.hasm_labels.proofs.label_target.Labels.find_indexed.Goals as goal
 
-pub bucket_of-h-requires : goal.bucket_of-h-requires
-bucket_of-h-requires c = let i = c.requires.indexed in (i.some, i.few)
-
-pub head_at-k-requires : goal.head_at-k-requires
-head_at-k-requires c = omega (arith, c.bucket_of-h.ensures.1, c.requires.indexed.chained.room)
-
 pub loop-k-init : goal.loop-k-init
 loop-k-init c =
     let h = c.bucket_of-h in
     λ ls i. rw c.head_at-k.ensures (label_start ls c.args.t.now i h.result h.ensures.0 h.ensures.1)
-
-pub overflow_add-word : goal.overflow_add-word
-overflow_add-word c = let p = c.requires in let w = (c.loop-k.invariant p.labels p.indexed).reached in omega (arith, w, p.indexed.chained.room)
-
-pub offset_bounds-self-m : goal.offset_bounds-self-m
-offset_bounds-self-m c = let p = c.requires in let w = (c.loop-k.invariant p.labels p.indexed).reached in omega (arith, w, p.indexed.chained.room)
-
-pub bounds-self-m : goal.bounds-self-m
-bounds-self-m c = let p = c.requires in let w = (c.loop-k.invariant p.labels p.indexed).reached in omega (arith, w, p.indexed.chained.room)
-
-pub place_of-l-requires : goal.place_of-l-requires
-place_of-l-requires c = let p = c.requires in let w = (c.loop-k.invariant p.labels p.indexed).reached in λ o. omega (arith, w, p.indexed.lent o, c.loop-k-test.true)
 
 pub returns-then-same_bytes : goal.returns-then-same_bytes
 returns-then-same_bytes c =

@@ -1,7 +1,7 @@
 -- Hexadecimal digits by two, four and eight. Assumes nothing.
-use Rattle.std.proofs.Common.{◌≡◌, ℕ, ◌/◌, ◌%◌, ◌^◌, ◌<◌, ◌≤◌, List, [], ◌∷◌, ◌++◌, sym, refl, ◌∙◌, arith}
+use Rattle.std.proofs.Common.{◌≡◌, ℕ, ◌/◌, ◌%◌, ◌^◌, ◌<◌, ◌≤◌, List, [], ◌∷◌, ◌++◌, sym, ◌∙◌, arith}
 use Rattle.spec_numbers.specs.Print.{digit, digits, padded, hex_upper, hex_upper16}
-use Rattle.spec_numbers.proofs.PrintLaws.{digits_small, unpadded}
+use Rattle.spec_numbers.proofs.PrintLaws.{unpadded}
 use Rattle.numbers.specs.Digits.{two_hex_digits, four_hex_digits, eight_hex_digits}
 use Rattle.numbers.proofs.DigitTurns.{Turn, bare_behind, twice, one_digit}
 
@@ -22,23 +22,9 @@ module _ (letter : ℕ) where
   eight : Hex 8 4294967296 (eight_hex_digits letter)
   eight = twice 16 letter 16 4 65536 (omega arith) four
 
-  -- one digit
-  pub hex_one : (n : ℕ) → n < 16 → digits 16 letter 16 n ≡ digit letter n ∷ []
-  hex_one n h = digits_small 16 letter 15 n h
-
-  -- two digits
-  pub hex_two : (n : ℕ) → 16 ≤ n → n < 256 → digits 16 letter 16 n ≡ two_hex_digits letter n
-  hex_two n h l = rw (bare_behind 16 letter 16 one n h (omega arith), hex_one (n / 16) (omega arith)) refl
-
-  -- the last two of more, the last four, and the last eight
-  pub hex_last_two : (n : ℕ) → 256 ≤ n → n < 2 ^ 64 → digits 16 letter 16 n ≡ digits 16 letter 16 (n / 256) ++ two_hex_digits letter (n % 256)
-  hex_last_two n h l = bare_behind 16 letter 16 two n h (omega arith)
-
+  -- the last four of more
   pub hex_last_four : (n : ℕ) → 65536 ≤ n → n < 2 ^ 64 → digits 16 letter 16 n ≡ digits 16 letter 16 (n / 65536) ++ four_hex_digits letter (n % 65536)
   hex_last_four n h l = bare_behind 16 letter 16 four n h (omega arith)
-
-  pub hex_last_eight : (n : ℕ) → 4294967296 ≤ n → n < 2 ^ 64 → digits 16 letter 16 n ≡ digits 16 letter 16 (n / 4294967296) ++ eight_hex_digits letter (n % 4294967296)
-  hex_last_eight n h l = bare_behind 16 letter 16 eight n h (omega arith)
 
   -- two digits and four of a number that has no more, with zeros in front
   pub hex_pair : (n : ℕ) → n < 256 → padded 2 (digits 16 letter 16 n) ≡ two_hex_digits letter n

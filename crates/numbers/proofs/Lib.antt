@@ -7,6 +7,7 @@ pub mod RoomLaws
 pub mod DigitLaws
 pub mod TurnLaws
 pub mod DigitTurns
+pub mod BaseTurns
 pub mod DecimalTurns
 pub mod HexTurns
 pub mod WordDigits

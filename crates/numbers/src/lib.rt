@@ -3,6 +3,7 @@
 
 pub mod little_endian; // little-endian numbers (io.rs)
 pub mod parse; // numbers read as Rust's u32, i32 and hex
+pub mod print_digits; // digits of a base
 pub mod print_decimal; // numbers printed in decimal
 pub mod print_double; // a double as it is listed
 pub mod print_hex; // numbers printed in hex

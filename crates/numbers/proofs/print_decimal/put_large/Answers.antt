@@ -1,8 +1,14 @@
 use Rattle.std.proofs.Common.{sym, arith}
 use Rattle.lists.proofs.Writes.{◌then◌, same_piece}
-use Rattle.numbers.proofs.DecimalTurns.{decimal_last_eight}
+use Rattle.spec_numbers.specs.Print.{decimal}
+use Rattle.numbers.proofs.BaseTurns.{last_eight}
 use Rattle.numbers.proofs.print_decimal.put_large.Goals as goal
 
+pub returns-then-n-lt100000000 : goal.returns-then-n-lt100000000
+unfolding decimal
+returns-then-n-lt100000000 c = c.put_middle.ensures 20 (omega arith) (omega arith)
+
 pub returns : goal.returns
+unfolding decimal
 returns c =
-    same_piece (sym (decimal_last_eight _ c.if-n-lt100000000.false (omega arith))) (c.put_middle-k.ensures then c.put_eight.ensures)
+    same_piece (sym (last_eight 10 97 (omega arith) 20 (omega arith) c.args.n (omega arith) c.if-n-lt100000000.false)) (c.put_middle-k.ensures 20 (omega arith) (omega arith) then c.put_eight.ensures)

@@ -6,4 +6,4 @@ use Rattle.numbers.proofs.print_hex.put_hex_byte.Goals as goal
 
 pub returns : goal.returns
 unfolding hex_upper
-returns c = same_piece (sym (hex_pair 65 _ (omega arith))) c.put_pair.ensures
+returns c = same_piece (sym (hex_pair 65 _ (omega arith))) c.put_two.ensures

@@ -1,6 +1,8 @@
-use Rattle.numbers.proofs.WordDigits.{small_decimal, bool_pick}
-use Rattle.std.proofs.Common.{sym}
+use Rattle.std.proofs.Common.{ltb, arith}
+use Rattle.numbers.proofs.WordDigits.{bool_pick, small_decimal}
 use Rattle.numbers.proofs.print_words.digit_count.Goals as goal
 
 pub returns : goal.returns
-returns c = rw (c.from.ensures, c.from-2.ensures, c.from-3.ensures, bool_pick, bool_pick, bool_pick) (sym (small_decimal c.args.n c.requires).count)
+returns c =
+    let n = c.args.n in
+    omega (arith, (small_decimal n c.requires).count, c.from.ensures, c.from-2.ensures, c.from-3.ensures, bool_pick (ltb 9 n), bool_pick (ltb 99 n), bool_pick (ltb 999 n))

@@ -1,6 +1,6 @@
 use Rattle.std.proofs.Common.{le-ltb, lt-ltb}
 use Rattle.spec_numbers.specs.Print.{digit}
-use Rattle.numbers.proofs.print_hex.digit_char.Goals as goal
+use Rattle.numbers.proofs.print_digits.digit_char.Goals as goal
 
 pub returns-then-d-lt10 : goal.returns-then-d-lt10
 unfolding digit

@@ -1,5 +1,0 @@
-use Rattle.lists.proofs.Writes.{◌then◌}
-use Rattle.numbers.proofs.print_decimal.put_eight.Goals as goal
-
-pub returns : goal.returns
-returns c = c.put_four-k.ensures then c.put_four.ensures

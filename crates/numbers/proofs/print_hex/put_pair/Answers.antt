@@ -1,6 +1,0 @@
-use Rattle.lists.proofs.Writes.{same_piece}
-use Rattle.numbers.proofs.print_hex.put_pair.Goals as goal
-
-pub returns : goal.returns
-returns c =
-    same_piece (rw (c.digit_char.ensures, c.digit_char-2.ensures)) c.put_bytes.ensures

@@ -1,6 +1,6 @@
 -- Records as decoding makes them: their table, and their pairs one after the other. Assumes nothing.
 use mathlib.Core.Path.{◌≡◌, refl, ap, sym, ◌∙◌}
-use mathlib.Core.Bool.{Bool, true, false}
+use mathlib.Core.Bool.{Bool, true, false, beq}
 use mathlib.Core.List.{List, [], ◌∷◌}
 use Prim.Native.Nat.{ℕ, ◌+◌, ◌-◌, ◌*◌, ◌^◌, ◌≤◌, ◌<◌}
 use native.Mathlib.Numerals.{add-one}
@@ -52,6 +52,19 @@ module _ (t : List (List ℕ)) (e : t ≡ code_table) (code : ℕ) where
 
       pub same_kind : kind ≡ get_or (get_or t 0 []) code 0 → canonical_pair code kind bits ≡ leb bits (get_or (get_or t 1 []) code 0)
       same_kind q = rw (le-leb code 12 h, eq-eqb kind (kind_of code) (q ∙ kind_at), e) (sym (table_fits code bits h))
+
+-- whether a code is none and whether it is used are told apart by the numbers that stand for both
+pub told_same : (none used : Bool) → beq none used ≡ true → ◌≡◌ {A = ℕ} (pick none 0 1) (pick used 1 0) → ⊥
+told_same true true e f = let z : ◌≡◌ {A = ℕ} 0 1 = f in omega arith
+told_same true false e f = let z : false ≡ true = e in cc z
+told_same false true e f = let z : false ≡ true = e in cc z
+told_same false false e f = let z : ◌≡◌ {A = ℕ} 1 0 = f in omega arith
+
+pub told_other : (none used : Bool) → beq none used ≡ false → ◌≡◌ {A = ℕ} (pick none 0 1) (pick used 1 0)
+told_other true true e = let z : true ≡ false = e in cc z
+told_other true false e = refl
+told_other false true e = refl
+told_other false false e = let z : true ≡ false = e in cc z
 
 -- code j is a type where j is below the count
 pub used_one : (j count : ℕ) → pick (ltb j count) 1 0 ≡ one_for (count - j)

@@ -36,22 +36,14 @@ pub(crate) fn code_table() -> [[u64; 13]; 3]
     ]
 }
 
-fn one_if(used: bool) -> u64
-    ensures { result ≡ pick used 1 0 }
-{
-    if used { 1 } else { 0 }
-}
-
 // Whether the first `count` codes of a row are types and the others none.
 fn in_order(row: [u8; 8], count: u64) -> bool
     ensures { result ≡ in_order row count }
 {
-    let mut j: usize = 0;
-    while j < 8 {
-        if sheet::row::one_for(row[j]) != one_if((j as u64) < count) {
+    for j in 0..8 {
+        if (row[j] == 0) == ((j as u64) < count) {
             return false;
         }
-        j += 1;
     }
     true
 }
@@ -73,10 +65,8 @@ pub(crate) fn canonical_counts(types: &[[u8; 8]; 256], last: usize) -> [u8; 256]
     ensures { Counted types.now last result }
 {
     let mut counts = [9u8; 256];
-    let mut op: usize = 0;
-    while op <= last {
+    for op in 0..last + 1 {
         counts[op] = canonical_count(types[op]);
-        op += 1;
     }
     counts
 }
@@ -90,10 +80,7 @@ fn canonical_pair(codes: &[[u64; 13]; 3], code: u8, kind: u64, bits: u64) -> boo
         return false;
     }
     let c = code as usize;
-    if kind != codes[0][c] {
-        return false;
-    }
-    bits <= codes[1][c]
+    kind == codes[0][c] && bits <= codes[1][c]
 }
 
 // Whether the first four pairs of the record at `at` have.
@@ -101,12 +88,9 @@ fn canonical_front(codes: &[[u64; 13]; 3], row: [u8; 8], words: &[u64], at: usiz
     requires { (codes.now ≡ code_table) × (at + 20 ≤ length words.now) }
     ensures { result ≡ canonical_pairs (take 4 row) (pairs_at words.now at) }
 {
-    let mut j: usize = 0;
-    while j < 4 {
+    for j in 0..4 {
         let p = at + 4 + 2 * j;
-        if canonical_pair(codes, row[j], words[p], words[p + 1]) {
-            j += 1;
-        } else {
+        if !canonical_pair(codes, row[j], words[p], words[p + 1]) {
             return false;
         }
     }
@@ -119,10 +103,8 @@ fn bare_words(words: &[u64], at: usize) -> bool
     ensures { result ≡ all_zero (drop 12 (record_at words.now at)) }
 {
     let mut met: u64 = 0;
-    let mut j: usize = 12;
-    while j < 20 {
-        met = met | words[at + j];
-        j += 1;
+    for j in 12..20 {
+        met |= words[at + j];
     }
     met == 0
 }
@@ -181,11 +163,9 @@ fn put_operands(
     ensures { (Ahead out.old «from» (canonical_bytes (take 4 row) (pairs_at words.now at)) 8 out.new result) × (length row ≡ 8) }
 {
     let mut k = from;
-    let mut j: usize = 0;
-    while j < 4 {
+    for j in 0..4 {
         numbers::little_endian::put_eight(out, k, words[at + 5 + 2 * j]);
         k += width_in(codes, row[j]);
-        j += 1;
     }
     k
 }
@@ -194,13 +174,7 @@ fn put_operands(
 pub(crate) fn has_room(len: usize, from: usize, spare: usize) -> bool
     ensures { result ≡ both (leb 8 spare) (leb («from» + 41) len) }
 {
-    if spare < 8 {
-        return false;
-    }
-    if len < 41 {
-        return false;
-    }
-    from <= len - 41
+    8 <= spare && 41 <= len && from <= len - 41
 }
 
 // Writes the record at `at`.

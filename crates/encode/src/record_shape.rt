@@ -12,32 +12,17 @@ const KIND_WIDTHS: [usize; 6] = [1, 2, 4, 1, 4, 8];
 fn good_pair(kind: u64, bits: u64) -> bool
     ensures { result ≡ good_pair kind bits }
 {
-    if 5 < kind {
-        return false;
-    }
-    fits_in(KIND_WIDTHS[kind as usize], bits)
+    kind <= 5 && fits_in(KIND_WIDTHS[kind as usize], bits)
 }
 
-// Whether a pair that is used is good, and an unused one zero.
-fn good_slot(unused: bool, kind: u64, bits: u64) -> bool
-    ensures { result ≡ pick unused (both (eqb kind 0) (eqb bits 0)) (good_pair kind bits) }
+// Whether a pair is good, where `left` pairs from it on are used, and zero where none is.
+fn good_slot(left: u64, kind: u64, bits: u64) -> bool
+    ensures { result ≡ pick (eqb left 0) (both (eqb kind 0) (eqb bits 0)) (good_pair kind bits) }
 {
-    if unused {
-        if kind == 0 {
-            return bits == 0;
-        }
-        return false;
+    if left == 0 {
+        return kind == 0 && bits == 0;
     }
     good_pair(kind, bits)
-}
-
-fn one_less(n: u64) -> u64
-    ensures { result ≡ n - 1 }
-{
-    if n == 0 {
-        return 0;
-    }
-    n - 1
 }
 
 // Whether the eight pairs of the record at `at` are good, where `count` are used.
@@ -46,15 +31,12 @@ fn good_pairs(words: &[u64], at: usize, count: u64) -> bool
     ensures { result ≡ good_pairs 8 count (pairs_at words.now at) }
 {
     let mut left = count;
-    let mut i: usize = 0;
-    while i < 8 {
+    for i in 0..8 {
         let p = at + 4 + 2 * i;
-        if good_slot(left == 0, words[p], words[p + 1]) {
-            left = one_less(left);
-            i += 1;
-        } else {
+        if !good_slot(left, words[p], words[p + 1]) {
             return false;
         }
+        left = left.saturating_sub(1);
     }
     true
 }
@@ -65,8 +47,5 @@ pub(crate) fn good_shape(words: &[u64], at: usize) -> bool
     ensures { result ≡ good_shape (record_at words.now at) }
 {
     let count = words[at + 3];
-    if 8 < count {
-        return false;
-    }
-    good_pairs(words, at, count)
+    count <= 8 && good_pairs(words, at, count)
 }

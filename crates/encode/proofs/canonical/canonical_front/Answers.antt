@@ -17,15 +17,15 @@ loop-j-preserved c =
     let a = c.args in
     let h : length a.row ≡ 8 = search rules in
     let f : length (take 4 a.row) ≡ 4 = length-take-le 4 a.row (omega arith) in
-    (omega arith, l.invariant.1 ∙ pair_canonical (take 4 a.row) a.words.now a.at l.j _ refl (omega arith) (omega arith) (rw (four_code a.row l.j c.loop-j-test.true) (sym c.canonical_pair.ensures ∙ c.if-canonical_pair.true)))
+    (omega arith, l.invariant.1 ∙ pair_canonical (take 4 a.row) a.words.now a.at l.j _ refl (omega arith) (omega arith) (rw (four_code a.row l.j c.loop-j-test.true) (sym c.canonical_pair.ensures ∙ c.if-not-canonical_pair.false)))
 
-pub returns-else-canonical_pair : goal.returns-else-canonical_pair
-returns-else-canonical_pair c =
+pub returns-then-not-canonical_pair : goal.returns-then-not-canonical_pair
+returns-then-not-canonical_pair c =
     let l = c.loop-j in
     let a = c.args in
     let h : length a.row ≡ 8 = search rules in
     let f : length (take 4 a.row) ≡ 4 = length-take-le 4 a.row (omega arith) in
-    sym (l.invariant.1 ∙ pair_other (take 4 a.row) a.words.now a.at l.j _ refl (omega arith) (omega arith) (rw (four_code a.row l.j c.loop-j-test.true) (sym c.canonical_pair.ensures ∙ c.if-canonical_pair.false)))
+    sym (l.invariant.1 ∙ pair_other (take 4 a.row) a.words.now a.at l.j _ refl (omega arith) (omega arith) (rw (four_code a.row l.j c.loop-j-test.true) (sym c.canonical_pair.ensures ∙ c.if-not-canonical_pair.true)))
 
 pub returns : goal.returns
 unfolding canonical_pairs

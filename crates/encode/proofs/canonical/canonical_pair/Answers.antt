@@ -1,4 +1,5 @@
-use mathlib.Core.Path.{sym}
+use mathlib.Core.Path.{sym, ◌∙◌}
+use borrow.Author.Tests.{ne_eqb}
 use Rattle.encode.proofs.CanonicalLaws.{no_type, other_kind, same_kind}
 use Rattle.encode.proofs.canonical.canonical_pair.Goals as goal
 
@@ -10,9 +11,9 @@ returns-then-code-gt12 c =
 pub returns-then-kind-codes : goal.returns-then-kind-codes
 returns-then-kind-codes c =
     let a = c.args in
-    sym (other_kind a.codes.now c.requires a.code a.kind a.bits c.if-code-gt12.false c.if-kind-codes.true)
+    sym (same_kind a.codes.now c.requires a.code a.kind a.bits c.if-code-gt12.false c.if-kind-codes.true)
 
-pub returns : goal.returns
-returns c =
+pub returns-else-kind-codes : goal.returns-else-kind-codes
+returns-else-kind-codes c =
     let a = c.args in
-    sym (same_kind a.codes.now c.requires a.code a.kind a.bits c.if-code-gt12.false c.if-kind-codes.false)
+    ne_eqb a.kind _ c.if-kind-codes.false ∙ sym (other_kind a.codes.now c.requires a.code a.kind a.bits c.if-code-gt12.false c.if-kind-codes.false)

@@ -6,6 +6,3 @@ use Rattle.encode.proofs.canonical.in_order.Given as goal
 
 abbrev pub invariant-loop-j : goal.invariant-loop-j
 invariant-loop-j l = (l.j ≤ 8) × (in_order l.row l.count ≡ in_order (drop l.j l.row) (l.count - l.j))
-
-abbrev pub decreases-loop-j : goal.decreases-loop-j
-decreases-loop-j l = 8 - l.j

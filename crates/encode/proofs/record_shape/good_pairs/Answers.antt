@@ -13,13 +13,13 @@ pub loop-i-preserved : goal.loop-i-preserved
 loop-i-preserved c =
     let l = c.loop-i in
     let a = c.args in
-    (omega arith, l.invariant.1 ∙ rw c.one_less-left.ensures (pair_good a.words.now a.at l.i _ l.left refl c.loop-i-test.true (sym c.good_slot.ensures ∙ c.if-good_slot.true)))
+    (omega arith, l.invariant.1 ∙ rw c.saturating_sub-left.ensures (pair_good a.words.now a.at l.i _ l.left refl c.loop-i-test.true (sym c.good_slot.ensures ∙ c.if-not-good_slot.false)))
 
-pub returns-else-good_slot : goal.returns-else-good_slot
-returns-else-good_slot c =
+pub returns-then-not-good_slot : goal.returns-then-not-good_slot
+returns-then-not-good_slot c =
     let l = c.loop-i in
     let a = c.args in
-    sym (l.invariant.1 ∙ pair_bad a.words.now a.at l.i _ l.left refl c.loop-i-test.true (sym c.good_slot.ensures ∙ c.if-good_slot.false))
+    sym (l.invariant.1 ∙ pair_bad a.words.now a.at l.i _ l.left refl c.loop-i-test.true (sym c.good_slot.ensures ∙ c.if-not-good_slot.true))
 
 pub returns : goal.returns
 unfolding good_pairs

@@ -7,6 +7,3 @@ use Rattle.encode.proofs.record_shape.good_pairs.Given as goal
 
 abbrev pub invariant-loop-i : goal.invariant-loop-i
 invariant-loop-i l = (l.i ≤ 8) × (good_pairs 8 l.count (pairs_at l.words l.at) ≡ good_pairs (8 - l.i) l.left (drop (2 * l.i) (pairs_at l.words l.at)))
-
-abbrev pub decreases-loop-i : goal.decreases-loop-i
-decreases-loop-i l = 8 - l.i

@@ -4,7 +4,7 @@ use Prim.Native.Nat.{ℕ}
 use mathlib.Core.Bool.{Bool, true, false, not}
 use Rattle.std.specs.Prelude.{Option, Some, None, Result, Ok, Err}
 use Rattle.std.specs.Result.{IsErrAnd}
-use Rattle.std.specs.Option.{is_some, ok_or}
+use Rattle.std.specs.Option.{is_some, ok_or, IfSome, MatchOption}
 use Rattle.lists.specs.Found.{Found}
 use Rattle.lists.specs.Found.Found.{found, missing}
 use Rattle.slices.specs.Answers.{found_of}
@@ -43,12 +43,12 @@ was_no_place (next w b) e = cc e
 was_no_place off e = refl
 
 -- whether a name was found
-pub name_told : (x : Found) (r : Option ℕ) (b : Bool) → r ≡ found_of x → is_some r ≡ not b → b ≡ is_missing x
+pub name_told : (x : Found) (r : Option ℕ) (b : Bool) → r ≡ found_of x → is_some r ≡ b → not b ≡ is_missing x
 unfolding is_missing
-name_told (found k) r true e f = let q : true ≡ false = rw e at f in cc q
-name_told (found k) r false e f = refl
-name_told missing r true e f = refl
-name_told missing r false e f = let q : false ≡ true = rw e at f in cc q
+name_told (found k) r true e f = refl
+name_told (found k) r false e f = let q : true ≡ false = rw e at f in cc q
+name_told missing r true e f = let q : false ≡ true = rw e at f in cc q
+name_told missing r false e f = refl
 
 pub name_missing : (x : Found) → x ≡ missing → true ≡ is_missing x
 unfolding is_missing
@@ -67,3 +67,9 @@ or_error None e {f} {r} p q = let t : ◌≡◌ {A = Result _ _} (Err e) (Err f)
 pub is_error : {A E : Type 0} (r : Result A E) {f : E} → IsErrAnd r (λ x. x ≡ f) → r ≡ Err f
 is_error (Ok v) h = absurd h
 is_error (Err x) h = ap Err h
+
+-- a quick reading, and where it answers nothing the plain one
+pub quick_first : (x : Step) (q r : Option Reading) {P : Type 0} → IfSome q (λ t. x ≡ next t.value t.next) → MatchOption q P (λ t. r ≡ Some t) → (P → r ≡ step_of x) → r ≡ step_of x
+unfolding step_of
+quick_first x (Some t) r i m f = m ∙ sym (ap step_of i)
+quick_first x None r i m f = f m

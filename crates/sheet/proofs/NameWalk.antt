@@ -6,7 +6,9 @@ use native.Mathlib.Omega.{arith}
 use lib.ListN.{length, drop, get_or}
 use borrow.Author.Tests.{lt-ltb, eq-eqb, ne_eqb}
 use Rattle.lists.proofs.Tests.{by_eqb}
+use Rattle.std.specs.List.{position}
 use Rattle.slices.specs.Answers.{found_of}
+use Rattle.slices.proofs.SearchLaws.{look_position}
 use Rattle.spec_sheet.specs.Line.{name_size}
 use Rattle.spec_sheet.specs.Sheet.{has_name, find_name}
 use Rattle.spec_sheet.proofs.NameLaws.{find_end, find_here, find_next}
@@ -28,3 +30,8 @@ first_name s name rows =
     (λ i l t. find_here s name rows i (sym (row_key s name (get_or rows i [])) ∙ t))
     (λ i l t. find_next s name rows i (sym (row_key s name (get_or rows i [])) ∙ t))
     (find_end s name rows (length rows) (omega arith))
+
+-- the same search by the library's word
+pub name_position : (s name : List ℕ) (rows : List (List ℕ)) → found_of (find_name s name 0 rows) ≡ position (has_name s name) rows
+unfolding find_name
+name_position s name rows = look_position (find_name s name) (has_name s name) (λ k. refl) (λ k row rest. refl) rows

@@ -60,24 +60,13 @@ pub struct Head {
     pub next: usize,
 }
 
-// The number of an opcode line between its texts, whatever stands there. This is a function of its own so that the texts are
-// made only where it is called.
-fn plain_op(s: &[u8], at: usize) -> Option<Reading>
-    ensures { result ≡ step_of (keyed_at (text "op=") 255 (text " name=") s.now at) }
-{
-    crate::scan::keyed_at(s, at, b"op=", 255, b" name=")
-}
-
-// The same, first by words, which takes less than half the instructions.
+// The number of an opcode line between its texts, first by words, which takes less than half the instructions.
 fn op_at(s: &[u8], at: usize) -> Option<Reading>
     ensures { result ≡ step_of (keyed_at (text "op=") 255 (text " name=") s.now at) }
 {
-    if crate::scan::has_left(s, at, 16) {
-        if let Some(reading) = crate::line_word::quick_op(s, at) {
-            return Some(reading);
-        }
-    }
-    plain_op(s, at)
+    crate::line_word::quick_op(s, at).or_else(|| crate::scan::keyed_at(
+        s, at, b"op=", 255, b" name=",
+    ))
 }
 
 fn head_at(s: &[u8], at: usize) -> Option<Head>
@@ -117,23 +106,13 @@ fn line_types(s: &[u8], head: Head, jump: usize, at: usize) -> Option<Line>
     })
 }
 
-// The jump mark between its texts, whatever stands there.
-fn plain_jump(s: &[u8], at: usize) -> Option<Reading>
-    ensures { result ≡ step_of (jump_at s.now at) }
-{
-    crate::scan::keyed_at(s, at, b" jump=", 1, b" types=")
-}
-
-// The same: first the two forms that there are, by words, then any other text, which is malformed.
+// The jump mark between its texts: first the two forms that there are, by words, then any other text, which is malformed.
 fn jump_at(s: &[u8], at: usize) -> Option<Reading>
     ensures { result ≡ step_of (jump_at s.now at) }
 {
-    if crate::scan::has_left(s, at, 16) {
-        if let Some(reading) = crate::line_word::quick_jump(s, at) {
-            return Some(reading);
-        }
-    }
-    plain_jump(s, at)
+    crate::line_word::quick_jump(s, at).or_else(|| crate::scan::keyed_at(
+        s, at, b" jump=", 1, b" types=",
+    ))
 }
 
 // A whole opcode line.

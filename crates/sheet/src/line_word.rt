@@ -6,7 +6,7 @@ ghost use Rattle.spec_sheet.specs.Scan.{number_at, keyed_at};
 ghost use Rattle.spec_sheet.specs.Scan.Step.{next};
 ghost use Rattle.spec_sheet.specs.Line.{jump_at};
 
-use crate::scan::Reading;
+use crate::scan::{Reading, has_left};
 use numbers::little_endian::read_of_eight;
 use slices::compare::is_within;
 use slices::widen::wide_byte;
@@ -85,9 +85,11 @@ fn short_number(s: &[u8], at: usize) -> Option<Reading>
 
 // The number between `op=` and ` name=`.
 pub(crate) fn quick_op(s: &[u8], at: usize) -> Option<Reading>
-    requires { at + 16 ≤ length s.now }
     ensures { IfSome result (λ r. keyed_at (text "op=") 255 (text " name=") s.now at ≡ next r.value r.next) }
 {
+    if !has_left(s, at, 16) {
+        return None;
+    }
     if read_of_eight(s, at, 8) % 0x100_0000 == 0x3d_706f {
         let number = short_number(s, at + 3)?;
         if read_of_eight(s, number.next, 8) % 0x1_0000_0000_0000 == 0x3d65_6d61_6e20 {
@@ -102,9 +104,11 @@ pub(crate) fn quick_op(s: &[u8], at: usize) -> Option<Reading>
 
 // The jump mark: all of ` jump=0 types=` or ` jump=1 types=`.
 pub(crate) fn quick_jump(s: &[u8], at: usize) -> Option<Reading>
-    requires { at + 16 ≤ length s.now }
     ensures { IfSome result (λ r. jump_at s.now at ≡ next r.value r.next) }
 {
+    if !has_left(s, at, 16) {
+        return None;
+    }
     if read_of_eight(s, at + 8, 8) % 0x1_0000_0000_0000 == 0x3d73_6570_7974 {
         let w = read_of_eight(s, at, 8);
         if w == 0x2030_3d70_6d75_6a20 {

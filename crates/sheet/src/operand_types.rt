@@ -9,7 +9,7 @@ ghost use Rattle.sheet.specs.TypeWords.{code_in};
 use crate::family::Family;
 use slices::compare::same_bytes;
 
-// Two codes that other crates name.
+// Two codes that other crates name. Codes stay bytes, as document 01's arrays have them.
 pub const ADDR8: u8 = 9;
 
 pub const DOUBLE: u8 = 12;
@@ -67,7 +67,7 @@ pub fn family(code: u8) -> Family
     }
 }
 
-// The kind of value that an operand is decoded to.
+// The kind of value that an operand is decoded to: a number, since a record holds it so (document 01).
 pub fn kind(code: u8) -> u8
     ensures { result ≡ kind_of code }
 {

@@ -7,10 +7,8 @@ pub fn instruction_length(row: [u8; 8]) -> usize
     ensures { (result ≡ length_of row) × (result ≤ 65) }
 {
     let mut n: usize = 1;
-    let mut i: usize = 0;
-    while i < 8 {
+    for i in 0..8 {
         n += crate::operand_types::width(row[i]);
-        i += 1;
     }
     n
 }
@@ -27,10 +25,8 @@ pub fn operand_count(row: [u8; 8]) -> u64
     ensures { result ≡ count_of row }
 {
     let mut n: u64 = 0;
-    let mut i: usize = 0;
-    while i < 8 {
+    for i in 0..8 {
         n += one_for(row[i]);
-        i += 1;
     }
     n
 }

@@ -1,5 +1,6 @@
 // The rows of a sheet's tables: an opcode's name looked up, and an opcode line stored.
 ghost use Rattle.std.specs.Prelude.{◌≡◌, ◌≤◌, ◌<◌, take, set, false};
+ghost use Rattle.std.specs.List.{position};
 ghost use Rattle.lists.specs.Choice.{pick};
 ghost use Rattle.lists.specs.Found.Found.{missing};
 ghost use Rattle.slices.specs.Answers.{found_of};
@@ -8,7 +9,8 @@ ghost use Rattle.spec_sheet.specs.Sheet.{has_name, find_name, is_missing, may_fo
 ghost use Rattle.sheet.specs.NameFilter.{Filtered};
 ghost use Rattle.sheet.specs.Rows.{turn_of, types_stored, infos_stored};
 
-// Where an opcode's row has its jump mark, and the start and length of its name. Its first number is the operand count.
+// Where an opcode's row has its jump mark, and the start and length of its name. Its first number is the operand count. The row stays
+// four numbers and no struct, since the definitions (info_row, no_info_rows) and the clauses of all crates have lists of numbers.
 pub const JUMP_MARK: usize = 1;
 
 pub const NAME_START: usize = 2;
@@ -28,35 +30,23 @@ pub fn has_name(s: &[u8], name: &[u8], row: [usize; 4]) -> bool
     slices::compare::same_bytes(own, name)
 }
 
+// The first of some rows that has a name.
+fn named_row(s: &[u8], name: &[u8], rows: &[[usize; 4]]) -> Option<usize>
+    ensures { result ≡ position (has_name s.now name.now) rows.now }
+{
+    rows.iter().position(|&row| has_name(s, name, row))
+}
+
 // The first opcode below `bound` that has a name.
 pub fn find_name(s: &[u8], name: &[u8], ops: &[[usize; 4]; 256], bound: usize) -> Option<usize>
     requires { bound ≤ 256 }
     ensures { result ≡ found_of (find_name s.now name.now 0 (take bound ops.now)) }
 {
-    let mut k: usize = 0;
-    while k < bound {
-        let row = ops[k];
-        if has_name(s, name, row) {
-            return Some(k);
-        }
-        k += 1;
-    }
-    None
+    named_row(s, name, &ops[..bound])
 }
 
-// Whether no opcode below `least` has this name. Where its hash is not in the filter there is none; only where it is the
-// opcodes are searched.
-fn is_new(s: &[u8], name: &[u8], ops: &[[usize; 4]; 256], least: usize, seen: bool) -> bool
-    requires { (least ≤ 256) × (seen ≡ false → find_name s.now name.now 0 (take least ops.now) ≡ missing) }
-    ensures { result ≡ is_missing (find_name s.now name.now 0 (take least ops.now)) }
-{
-    if seen {
-        return find_name(s, name, ops, least).is_none();
-    }
-    true
-}
-
-// Stores the two rows of an opcode, where it may follow those below `least`.
+// Stores the two rows of an opcode, where it may follow those below `least`. The tables are parameters, since document 01 has the type
+// codes by value in no struct.
 fn store_op(
     s: &[u8],
     least: usize,
@@ -78,14 +68,14 @@ fn store_op(
     }
     let name = slices::part::part_of(s, info[NAME_START], info[NAME_SIZE]);
     let h = crate::name_filter::name_hash(name);
-    let seen = crate::name_filter::in_filter(filter, h);
-    if is_new(s, name, ops, least, seen) {
-        types[code] = row;
-        ops[code] = info;
-        crate::name_filter::add_hash(filter, h);
-        return true;
+    // Where its hash is not in the filter no opcode has the name; only where it is the opcodes are searched.
+    if crate::name_filter::in_filter(filter, h) && find_name(s, name, ops, least).is_some() {
+        return false;
     }
-    false
+    types[code] = row;
+    ops[code] = info;
+    crate::name_filter::add_hash(filter, h);
+    true
 }
 
 // An opcode line that was stored: its opcode and the place behind it.

@@ -202,10 +202,5 @@ fn counted_type(s: &[u8], at: usize) -> Option<Reading>
 pub fn type_at(s: &[u8], at: usize) -> Option<Reading>
     ensures { result ≡ step_of (type_at s.now at) }
 {
-    if has_left(s, at, 8) {
-        if let Some(reading) = crate::type_word::quick_type(s, at) {
-            return Some(reading);
-        }
-    }
-    counted_type(s, at)
+    crate::type_word::quick_type(s, at).or_else(|| counted_type(s, at))
 }

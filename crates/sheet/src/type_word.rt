@@ -4,7 +4,7 @@ ghost use Rattle.spec_sheet.specs.Scan.{is_name_byte, type_at};
 ghost use Rattle.spec_sheet.specs.Scan.Step.{next};
 ghost use Rattle.sheet.specs.TypeWords.{Names};
 
-use crate::scan::Reading;
+use crate::scan::{Reading, has_left};
 
 // Whether the lowest byte stands before all letters, digits and underscores, as the comma or line end behind a type does.
 fn ends_type(v: u64) -> bool
@@ -38,9 +38,11 @@ fn code_of(n: usize, w: u64) -> Option<u8>
 // The name of an operand type, where a byte below `0` stands behind it, as a comma or a line end: what it answers is what `type_at`
 // answers, but it may answer nothing where that does.
 pub(crate) fn quick_type(s: &[u8], at: usize) -> Option<Reading>
-    requires { at + 8 ≤ length s.now }
     ensures { IfSome result (λ r. type_at s.now at ≡ next r.value r.next) }
 {
+    if !has_left(s, at, 8) {
+        return None;
+    }
     let w = numbers::little_endian::read_of_eight(s, at, 8);
     for n in 4..8 {
         if ends_type(w >> (8 * n)) {

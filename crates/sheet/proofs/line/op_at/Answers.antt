@@ -1,13 +1,8 @@
-use Rattle.sheet.specs.Answers.{step_of}
-use borrow.Author.Tests.{leb-true}
-use lib.ListN.{length}
-use Prim.Native.Nat.{◌+◌}
-use mathlib.Core.Path.{sym, ◌∙◌, ap}
+use borrow.Author.Rules.{rules}
+use Rattle.lists.specs.Text.{text}
+use Rattle.sheet.proofs.AnswerLaws.{quick_first}
 use Rattle.sheet.proofs.line.op_at.Goals as goal
 
-pub quick_op-requires : goal.quick_op-requires
-quick_op-requires c = let a = c.args in leb-true (a.at + 16) (length a.s.now) (sym c.has_left.ensures ∙ c.if-has_left.true)
-
-pub returns-in-Some : goal.returns-in-Some
-unfolding step_of
-returns-in-Some c = sym (ap step_of c.in-Some.ensures)
+pub returns : goal.returns
+unfolding text
+returns c = quick_first _ _ _ c.quick_op.ensures c.or_else.ensures (λ p. search rules)

@@ -17,7 +17,6 @@ pub struct Span {
     pub end: usize,
 }
 
-#[tactic(auto, using(crate::proofs::InstructionLaws::opcode_small))]
 // Writes the instruction whose name and operands are s at its place. Names that the sheet lacks are refused before.
 pub(crate) fn put_instruction(
     context: Context<'_>,

@@ -1,5 +1,0 @@
-use Rattle.answers.proofs.OutcomeLaws.{ended_numbers}
-use Rattle.desk_host.proofs.desk_list_module.Goals as goal
-
-pub returns-clause-ended : goal.returns-clause-ended
-returns-clause-ended c = ended_numbers c.list_numbers.ensures c.list_module.ensures.ended

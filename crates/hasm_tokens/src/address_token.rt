@@ -10,7 +10,7 @@ use answers::refusal::OperandFault;
 use numbers::parse::parse_u32;
 use numbers::signed::wrapping_distance;
 
-// `L` and a u32; `L` and something else, for which the label table decides; or no `L`.
+// `L` and a u32; `L` and something else, for which the label table decides; or no `L`. Three cases, so no Option or Result.
 #[derive(Clone, Copy)]
 pub enum Target {
     Offset(u64),

@@ -38,6 +38,7 @@ pub fn signed_value(t: &[u8]) -> Result<u64, OperandFault>
     parse_i32(t).ok_or(OperandFault::Number)
 }
 
+// Like signed_value but for the reader and the fault; with both as parameters it would be no plainer than the call.
 #[tactic(auto, using(crate::proofs::TokenLaws::number_answer))]
 pub fn double_value(t: &[u8]) -> Result<u64, OperandFault>
     ensures { result ≡ token_answer (number_or fault.Double (read_double t.now)) }

@@ -32,7 +32,7 @@ const LITERAL: [u64; 4] = [
     0xffff_ffff_ffff_ffff,
 ];
 
-// Whether no byte is a backslash.
+// Whether no byte is a backslash. The clause says what the class stands for, so that callers don't.
 fn all_literal(s: &[u8]) -> bool
     ensures { result ≡ all is_literal s.now }
 {

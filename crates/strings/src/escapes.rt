@@ -1,4 +1,5 @@
-// Escapes as the listing prints them: escape_js_string of util.rs.
+// Escapes as the listing prints them: escape_js_string of util.rs. A writer takes `out` and the position in it, since the position goes
+// on where `out` ends (slices::write).
 ghost use Rattle.std.specs.Prelude.{◌≡◌, [], ◌∷◌, ◌<◌};
 ghost use Rattle.lists.specs.Choice.{pick, within};
 ghost use Rattle.lists.specs.Scan.{all};
@@ -127,6 +128,7 @@ fn put_characters(out: &mut [u8], at: usize, s: &[u8]) -> usize
 // The bytes that are whole characters and stand for themselves: 32 to 126 but for the quote and the backslash.
 const BARE: [u64; 4] = [0xffff_fffb_0000_0000, 0x7fff_ffff_efff_ffff, 0, 0];
 
+// The clause says what the class stands for, so that the caller doesn't.
 fn all_bare(s: &[u8]) -> bool
     ensures { result ≡ all bare s.now }
 {

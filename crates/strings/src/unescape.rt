@@ -1,4 +1,5 @@
-// Escapes as the assembler reads them back: unquote of write/hasm/parse.rs.
+// Escapes as the assembler reads them back: unquote of write/hasm/parse.rs. A writer takes `out` and the position in it, since the
+// position goes on where `out` ends (slices::write).
 ghost use Rattle.std.specs.Prelude.{◌≡◌, false};
 ghost use Rattle.lists.specs.Write.{Put};
 ghost use Rattle.spec_strings.specs.Escape.{meant, unescape};

@@ -28,7 +28,7 @@ pub enum State {
 fn after_lead(b: u8) -> State
     ensures { state_number result ≡ after_lead b }
 {
-    // Most bytes are, and asked first it takes one test.
+    // Most bytes are ASCII; asked first, they take one test.
     if b.is_ascii() {
         return State::Between;
     }

@@ -35,6 +35,7 @@ pub fn read_names(
     let text = source.text;
     let mut indexed = start_index(index, m);
     let mut p = crate::hold_label::at_start();
+    // A line's end says where the next one starts, so the places are followed and not counted.
     let mut at: usize = 0;
     let mut n: usize = 1;
     while at < text.len() {

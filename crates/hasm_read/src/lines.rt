@@ -59,6 +59,7 @@ fn is_text(line: &[u8]) -> bool
 pub fn check_lines(text: &[u8]) -> Result<(), Refusal>
     ensures { (rest : Assembled) → unless_bad_line 1 (lines_of text.now) rest ≡ checked_or result rest }
 {
+    // A line's end says where the next one starts, so the places are followed and not counted.
     let mut at: usize = 0;
     let mut n: usize = 1;
     while at < text.len() {

@@ -10,7 +10,7 @@ returns-in_default c =
     λ bytes ends. name_unknown _ a.n a.s.now c.word_end-k.result c.word_end-k.ensures.0 (sym c.in_default.is ∙ (rw (c.names.ensures.text, c.names.ensures.ops) at c.find.ensures))
 
 pub bounds-source-opcode : goal.bounds-source-opcode
-bounds-source-opcode c = row_below c.args.source.tables.text.now _ c.args.source.tables.ops.now _ (sym c.in-Some.is ∙ (rw (c.names.ensures.text, c.names.ensures.ops) at c.find.ensures)) (omega (arith, c._rows-1.given))
+bounds-source-opcode c = row_below c.args.source.tables.text.now _ c.args.source.tables.ops.now _ (sym c.in-Some.is ∙ (rw (c.names.ensures.text, c.names.ensures.ops) at c.find.ensures)) (omega arith)
 
 pub returns-then-given-operand_count : goal.returns-then-given-operand_count
 returns-then-given-operand_count c =
@@ -23,4 +23,4 @@ returns c =
     λ bytes ends. name_sized _ a.n a.s.now c.word_end-k.result c.word_end-k.ensures.0 _ (sym c.in-Some.is ∙ (rw (c.names.ensures.text, c.names.ensures.ops) at c.find.ensures)) c.white_end-a.result c.white_end-a.ensures.0 _ c.count_operands-given.ensures (c.if-given-operand_count.false ∙ c.operand_count.ensures) _ c.instruction_length.ensures.0 c.instruction_length.ensures.1
 
 pub offset_bounds-source-opcode : goal.offset_bounds-source-opcode
-offset_bounds-source-opcode c = let below = row_below c.args.source.tables.text.now _ c.args.source.tables.ops.now _ (sym c.in-Some.is ∙ (rw (c.names.ensures.text, c.names.ensures.ops) at c.find.ensures)) (omega (arith, c._rows-1.given)) in search (rules, below)
+offset_bounds-source-opcode c = let below = row_below c.args.source.tables.text.now _ c.args.source.tables.ops.now _ (sym c.in-Some.is ∙ (rw (c.names.ensures.text, c.names.ensures.ops) at c.find.ensures)) (omega arith) in search (rules, below)

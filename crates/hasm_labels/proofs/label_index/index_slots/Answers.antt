@@ -1,7 +1,6 @@
 use mathlib.Core.Path.{refl, ap, ◌∙◌}
 use mathlib.Core.Bool.{false}
 use native.Mathlib.Omega.{arith}
-use borrow.Author.Tests.{not-false}
 use Rattle.hash_index.specs.Hash.{bucket_of}
 use Rattle.hasm_labels.specs.Keys.{KeyPut}
 use Rattle.hasm_labels.proofs.LabelLaws.{labels_none}
@@ -18,7 +17,7 @@ pub put_key-requires : goal.put_key-requires
 put_key-requires c =
     let a = c.args in
     let l = c.loop-k in
-    let room = c.has_room.ensures (not-false _ c.if-not-has_room.false-raw) in
+    let room = c.has_room.ensures c.if-not-has_room.false in
     let h = c.bucket_of-h in
     let t = c.loop-k-test.true in
     let e = l.invariant.1 ∙ c.empty_chains.auto.index in
@@ -28,7 +27,7 @@ pub loop-k-preserved : goal.loop-k-preserved
 loop-k-preserved c =
     let a = c.args in
     let l = c.loop-k in
-    let room = c.has_room.ensures (not-false _ c.if-not-has_room.false-raw) in
+    let room = c.has_room.ensures c.if-not-has_room.false in
     let h = c.bucket_of-h in
     let t = c.loop-k-test.true in
     let e = l.invariant.1 ∙ c.empty_chains.auto.index in

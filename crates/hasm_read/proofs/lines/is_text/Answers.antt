@@ -15,4 +15,4 @@ unfolding agree_below in_class is_text_byte
 text-class = refl
 
 pub returns : goal.returns
-returns c = c.all_in.ensures ∙ all_same class is_text_byte text-class c.args.line.now (λ i. (c.shared_slice_known-1.given i).fits)
+returns c = c.all_in.ensures ∙ all_same class is_text_byte text-class c.args.line.now (λ i. (c.type_inv.line i).fits)

@@ -11,32 +11,32 @@ use Rattle.spec_job.proofs.JobLaws.{job_list, job_assemble, job_carry, job_other
 use Rattle.job.specs.ReaderAnswers.{asked, read_work}
 use Rattle.job.specs.declared.reader.Work.TheVariants as works
 use Rattle.job.specs.declared.reader.Asked.{Asked}
-use Rattle.job.specs.declared.reader.Asked.TheVariants as jobs
+use Rattle.std.proofs.Common.{Option, Some, None}
 
 -- the four answers
 module _ (s : List ℕ) where
-  pub asks_list : opens (text "job=list\n") s ≡ true → jobs.Job works.List 9 ≡ asked s
+  pub asks_list : opens (text "job=list\n") s ≡ true → ◌≡◌ {A = Option Asked} (Some (record { work = works.List; start = 9 })) (asked s)
   unfolding asked
   asks_list e = rw e refl
 
   module _ (n : opens (text "job=list\n") s ≡ false) where
-    pub asks_assemble : opens (text "job=assemble\n") s ≡ true → jobs.Job works.Assemble 13 ≡ asked s
+    pub asks_assemble : opens (text "job=assemble\n") s ≡ true → ◌≡◌ {A = Option Asked} (Some (record { work = works.Assemble; start = 13 })) (asked s)
     unfolding asked
     asks_assemble e = rw (n, e) refl
 
     module _ (m : opens (text "job=assemble\n") s ≡ false) where
-      pub asks_carry : opens (text "job=carry\n") s ≡ true → jobs.Job works.Carry 10 ≡ asked s
+      pub asks_carry : opens (text "job=carry\n") s ≡ true → ◌≡◌ {A = Option Asked} (Some (record { work = works.Carry; start = 10 })) (asked s)
       unfolding asked
       asks_carry e = rw (n, m, e) refl
 
-      pub asks_other : opens (text "job=carry\n") s ≡ false → jobs.Other ≡ asked s
+      pub asks_other : opens (text "job=carry\n") s ≡ false → ◌≡◌ {A = Option Asked} None (asked s)
       unfolding asked
       asks_other e = rw (n, m, e) refl
 
 -- how the job is read by them
-unfoldable pub read_as : Asked → List ℕ → JobRead
-read_as (jobs.Job work at) s = read_work work s at
-read_as jobs.Other s = bad_line 1
+unfoldable pub read_as : Option Asked → List ℕ → JobRead
+read_as (Some a) s = read_work a.work s a.start
+read_as None s = bad_line 1
 
 pub read_as_lem : (s : List ℕ) → read_job s ≡ read_as (asked s) s
 unfolding read_as read_work

@@ -22,8 +22,7 @@ use Rattle.spec_job.specs.Job.JobRead.{carry_job}
 use Rattle.spec_job.specs.Printed.{carry_under, job_run, body_text, form_of, printed_of, printed_job}
 use Rattle.spec_job.proofs.JobLaws.{second_body}
 use Rattle.carry.specs.Inputs.{on_inputs}
-use Rattle.carry.specs.declared.inputs.Inputs.{Inputs}
-use Rattle.carry.specs.declared.inputs.Inputs.TheVariants.{Good, Refused}
+use Rattle.std.proofs.Common.{Result, Ok, Err}
 use Rattle.job.specs.declared.reader.InputsRead.{InputsRead}
 use Rattle.job.specs.Prints.{Prints, answer_text}
 use Rattle.job.proofs.ReadLaws.{BodyWas, InputsWas}
@@ -33,18 +32,18 @@ use Rattle.job.proofs.ListLaws.{same_form}
 use Rattle.job.proofs.RunLaws.{inputs_prints}
 
 -- under string tables one of which is refused, and under good ones
-module _ (job bytes ends bytes₂ ends₂ body : List ℕ) (os os₂ : List Op) (before entries after : List ℕ) (r : Report) (i : Inputs) (look : (rest : Outcome) → unless_case (table_cases body bytes ends bytes₂ ends₂) rest ≡ on_inputs i rest) where
+module _ (job bytes ends bytes₂ ends₂ body : List ℕ) (os os₂ : List Op) (before entries after : List ℕ) (r : Report) (i : Result (Unit {0}) Refusal) (look : (rest : Outcome) → unless_case (table_cases body bytes ends bytes₂ ends₂) rest ≡ on_inputs i rest) where
   abbrev own : JobInputs
   own = record { opcodes = os; bytes = bytes; ends = ends }
 
   abbrev own₂ : JobInputs
   own₂ = record { opcodes = os₂; bytes = bytes₂; ends = ends₂ }
 
-  pub carry_refused : (x : Refusal) → i ≡ Refused x → r ≡ refusal_report x → after ≡ zeros before → Ended (carry_under job own own₂ body) before entries after r
+  pub carry_refused : (x : Refusal) → i ≡ Err x → r ≡ refusal_report x → after ≡ zeros before → Ended (carry_under job own own₂ body) before entries after r
   unfolding carry_under on_inputs
   carry_refused x q p z = refused_end _ x before entries after r (look _ ∙ rw q refl) p z
 
-  pub carry_ready : (types ops types₂ ops₂ : List (List ℕ)) (last : ℕ) → i ≡ Good → types ≡ type_rows os → ops ≡ info_rows os → last ≡ largest os → types₂ ≡ type_rows os₂ → ops₂ ≡ info_rows os₂
+  pub carry_ready : (types ops types₂ ops₂ : List (List ℕ)) (last : ℕ) {u : Unit {0}} → i ≡ Ok u → types ≡ type_rows os → ops ≡ info_rows os → last ≡ largest os → types₂ ≡ type_rows os₂ → ops₂ ≡ info_rows os₂
       → Ended (carrying.carry_under (context_from job types ops bytes ends) (context_from job types₂ ops₂ bytes₂ ends₂) last body) before entries after r → Ended (carry_under job own own₂ body) before entries after r
   unfolding carry_under on_inputs
   carry_ready types ops types₂ ops₂ last q t o l t₂ o₂ d = rw (look _, q) (rw (sym t, sym o, sym l, sym t₂, sym o₂) d)

@@ -12,8 +12,7 @@ use Rattle.spec_job.specs.Hex.HexRead.{hex, no_hex}
 use Rattle.job.specs.HexAnswers.{Lined}
 use Rattle.job.specs.HexAnswers.Lined.{line, no_line}
 use Rattle.job.specs.TableAnswers.{Opens}
-use Rattle.job.specs.declared.hex.HexLine.{HexLine}
-use Rattle.job.specs.declared.hex.HexLine.TheVariants.{Read, Malformed}
+use Rattle.std.proofs.Common.{Option, Some, None}
 use Rattle.job.specs.declared.hex.HexRead.{HexRead as Numbers}
 
 -- a line that was written
@@ -22,15 +21,15 @@ pub record Wrote (x : HexRead) (out : List ℕ) («from» : ℕ) (out' : List �
   pub is_hex : x ≡ hex bytes b
   pub written : Put out «from» bytes out' k
 
-module _ {x : HexRead} {out : List ℕ} {«from» : ℕ} {out' : List ℕ} {r : HexLine} where
-  pub was_line : {n : Numbers} → Lined x out «from» out' r → r ≡ Read n → Wrote x out «from» out' n.end n.next
+module _ {x : HexRead} {out : List ℕ} {«from» : ℕ} {out' : List ℕ} {r : Option Numbers} where
+  pub was_line : {n : Numbers} → Lined x out «from» out' r → r ≡ Some n → Wrote x out «from» out' n.end n.next
   was_line {n} (line bs c j e f p) q =
       let y : ◌≡◌ {A = Numbers} (record { end = c; next = j }) n = cc (sym f ∙ q) in
       let z : j ≡ n.next = ap (λ (m : Numbers). m.next) y in
       record { bytes = bs; is_hex = e ∙ ap (λ (m : Numbers). hex bs m.end) y; written = rw z at p }
   was_line (no_line e f) q = absurd (let z : ◌≡◌ {A = ℕ} 0 1 = cc (sym f ∙ q) in omega arith)
 
-  pub was_malformed : Lined x out «from» out' r → r ≡ Malformed → x ≡ no_hex
+  pub was_malformed : Lined x out «from» out' r → r ≡ None → x ≡ no_hex
   was_malformed (line bs c j e f p) q = absurd (let z : ◌≡◌ {A = ℕ} 0 1 = cc (sym f ∙ q) in omega arith)
   was_malformed (no_line e f) q = e
 

@@ -12,7 +12,7 @@ use Rattle.spec_job.specs.Hex.HexRead.{hex, no_hex}
 use Rattle.spec_job.proofs.HexLaws.{hex_ended, hex_byte, hex_high, hex_low, hex_past}
 use Rattle.job.specs.HexAnswers.{Lined}
 use Rattle.job.specs.HexAnswers.Lined.{line, no_line}
-use Rattle.job.specs.declared.hex.HexLine.TheVariants.{Read, Malformed}
+use Rattle.std.proofs.Common.{Some, None}
 
 -- bytes in front of those of a line
 unfoldable pub behind : List ℕ → HexRead → HexRead
@@ -42,24 +42,24 @@ begin s start out «from» h l = record { seen = []; fuel = length s; enough = o
 
 module _ (s : List ℕ) (start : ℕ) (out₀ : List ℕ) («from» : ℕ) (out : List ℕ) (k at : ℕ) (g : Going s start out₀ «from» out k at) where
   -- the end of the line
-  pub ended : get_or s at 0 ≡ 10 → Lined (hex_at s start) out₀ «from» out (Read (record { end = at + 1; next = k }))
+  pub ended : get_or s at 0 ≡ 10 → Lined (hex_at s start) out₀ «from» out (Some (record { end = at + 1; next = k }))
   unfolding behind
   ended e = line g.seen (at + 1) k (g.left ∙ (rw (hex_ended s at g.fuel e) (ap (λ (l : List ℕ). hex l (at + 1)) (append-nil g.seen)))) refl g.wrote
 
   -- a line that is not of the form
-  stopped : hex_from g.fuel s at ≡ no_hex → Lined (hex_at s start) out₀ «from» out Malformed
+  stopped : hex_from g.fuel s at ≡ no_hex → Lined (hex_at s start) out₀ «from» out None
   unfolding behind
   stopped e = no_line (g.left ∙ rw e) refl
 
-  pub past : length s ≤ at → Lined (hex_at s start) out₀ «from» out Malformed
+  pub past : length s ≤ at → Lined (hex_at s start) out₀ «from» out None
   past h = stopped (hex_past s at g.fuel h)
 
   module _ (n : get_or s at 0 ≡ 10 → ⊥) (high : ℕ) (p : high ≡ digit_value (get_or s at 0)) where
-    pub no_high : 15 < high → Lined (hex_at s start) out₀ «from» out Malformed
+    pub no_high : 15 < high → Lined (hex_at s start) out₀ «from» out None
     no_high h = stopped (hex_high s at n g.fuel (omega (arith, p)))
 
     module _ (low : ℕ) (q : low ≡ digit_value (get_or s (at + 1) 0)) where
-      pub no_low : 15 < low → Lined (hex_at s start) out₀ «from» out Malformed
+      pub no_low : 15 < low → Lined (hex_at s start) out₀ «from» out None
       no_low h = stopped (hex_low s at n g.fuel (omega (arith, q)))
 
       pub turn : (out' : List ℕ) (k' : ℕ) → at < length s → high ≤ 15 → low ≤ 15 → Put out k ((16 * high + low) ∷ []) out' k' → Going s start out₀ «from» out' k' (at + 2)

@@ -17,13 +17,14 @@ use Rattle.spec_sheet.specs.Line.{Op}
 use Rattle.spec_sheet.specs.Sheet.{type_rows, info_rows, largest}
 use Rattle.spec_body.specs.Decode.{decode_body}
 use Rattle.spec_inputs.specs.Context.{context_from}
-use Rattle.spec_inputs.specs.Inputs.{under_table}
 use Rattle.spec_listing.specs.Listing.{list_decoded}
 use Rattle.spec_listing.specs.Operation.{list_outcome}
 use Rattle.spec_job.specs.Job.{JobInputs, with_body}
 use Rattle.spec_job.specs.Job.JobRead.{list_job}
 use Rattle.spec_job.specs.Printed.{default_options, list_under, job_run, job_space, refused_text, form_of, printed_of, printed_job}
-use Rattle.operation.proofs.TableLaws.{AreReady}
+use Rattle.std.proofs.Common.{Ok, Err}
+use Rattle.operation.specs.Tables.{table_check}
+use Rattle.operation.proofs.TableLaws.{goes_on, refused}
 use Rattle.job.proofs.ReadLaws.{BodyWas}
 use Rattle.job.specs.Prints.{Prints, answer_text}
 use Rattle.job.proofs.PrintLaws.{same_print}
@@ -34,14 +35,14 @@ module _ (job bytes ends body : List ℕ) (os : List Op) (before entries after :
   abbrev own : JobInputs
   own = record { opcodes = os; bytes = bytes; ends = ends }
 
-  pub list_refused : (x : Refusal) → ((rest : Outcome) → under_table bytes ends rest ≡ refused_with x) → r ≡ refusal_report x → after ≡ zeros before → Ended (list_under job own body) before entries after r
+  pub list_refused : (x : Refusal) → table_check bytes ends ≡ Err x → r ≡ refusal_report x → after ≡ zeros before → Ended (list_under job own body) before entries after r
   unfolding list_under
-  list_refused x stops q z = refused_end _ x before entries after r (stops _) q z
+  list_refused x stops q z = refused_end _ x before entries after r (refused bytes ends x stops _) q z
 
-  pub list_ready : (types ops : List (List ℕ)) (last k : ℕ) → AreReady last bytes ends k → types ≡ type_rows os → ops ≡ info_rows os → last ≡ largest os
-      → Ended (list_outcome (list_decoded default_options (context_from job types ops bytes ends) [] (decode_body types k body))) before entries after r → Ended (list_under job own body) before entries after r
+  pub list_ready : (types ops : List (List ℕ)) (last : ℕ) → table_check bytes ends ≡ Ok tt → types ≡ type_rows os → ops ≡ info_rows os → last ≡ largest os
+      → Ended (list_outcome (list_decoded default_options (context_from job types ops bytes ends) [] (decode_body types last body))) before entries after r → Ended (list_under job own body) before entries after r
   unfolding list_under
-  list_ready types ops last k w t o l e = rw w.goes_on (rw (sym t, sym o, sym l, sym w.last_is) e)
+  list_ready types ops last w t o l e = rw (goes_on bytes ends w _) (rw (sym t, sym o, sym l) e)
 
 -- a body that is listed
 pub listing_prints : (job : List ℕ) (e : JobInputs) (body before out : List ℕ) (answer : Report) → length before ≡ job_output → Ended (list_under job e body) before (job_labels ∷ []) out answer

@@ -17,6 +17,7 @@ use Rattle.spec_job.specs.Printed.{job_run, refused_text, hex_of, body_text, for
 use Rattle.limits.specs.Limits.{job_output}
 use Rattle.answers.specs.Report.{Report}
 use Rattle.answers.specs.Refusals.{refusal_report}
+use Rattle.answers.specs.declared.refusal.Refusal.{Refusal}
 use Rattle.answers.specs.declared.refusal.Refusal.TheVariants.{Malformed}
 use Rattle.job.specs.Prints.{Prints, answer_text}
 use Rattle.spec_job.specs.Job.{JobRead}
@@ -115,3 +116,7 @@ module _ (hex : Bool) (p : Report) (out before after : List ℕ) (r : ℕ) where
 -- an answer's text by its report
 pub report_print : (hex : Bool) (p q : Report) (out : List ℕ) {before after : List ℕ} {r : ℕ} → p ≡ q → Prints (answer_text hex p out) before after r → Prints (answer_text hex q out) before after r
 report_print hex p q out e w = rw e at w
+
+-- a refusal of a malformed line
+pub fault_prints : (job : List ℕ) {x : JobRead} {f : Refusal} {before after : List ℕ} {r : ℕ} → (line : ℕ) × (f ≡ Malformed line) × (x ≡ bad_line line) → Put before 0 (refused_text (refusal_report f)) after r → Prints (printed_job job x) before after r
+fault_prints job b w = line_prints job b.2 (rw b.1 at w)

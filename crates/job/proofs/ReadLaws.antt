@@ -17,10 +17,13 @@ use Rattle.job.specs.ReaderAnswers.{BodyIn, InputsIn, Holds}
 use Rattle.job.specs.ReaderAnswers.InputsIn.{whole as whole-inputs, faulty as faulty-inputs}
 use Rattle.job.specs.ReaderAnswers.BodyIn.{whole, faulty}
 use Rattle.job.specs.declared.reader.InputsRead.{InputsRead as Numbers}
-use Rattle.job.specs.declared.reader.InputsAnswer.{InputsAnswer}
-use Rattle.job.specs.declared.reader.InputsAnswer.TheVariants as answers
-use Rattle.job.specs.declared.reader.BodyAnswer.{BodyAnswer}
-use Rattle.job.specs.declared.reader.BodyAnswer.TheVariants as bodies
+use Rattle.std.proofs.Common.{Result, Ok, Err}
+use Rattle.answers.specs.declared.refusal.Refusal.{Refusal}
+use Rattle.answers.specs.declared.refusal.Refusal.TheVariants.{Malformed}
+
+-- a refusal is that of a malformed line, which is the one of which P says more
+abbrev pub BadLine : Refusal → (ℕ → Type 0) → Type 0
+BadLine f P = (line : ℕ) × (f ≡ Malformed line) × P line
 
 -- a body that was read, from the answer
 pub record BodyWas (x : (List ℕ → JobRead) → JobRead) (out : List ℕ) (n : ℕ) : Type 0 where
@@ -29,13 +32,13 @@ pub record BodyWas (x : (List ℕ → JobRead) → JobRead) (out : List ℕ) (n 
   pub count : n ≡ length body
   pub stored : Opens out body
 
-pub was_body : {x : (List ℕ → JobRead) → JobRead} {out : List ℕ} {r : BodyAnswer} {n : ℕ} → BodyIn x out r → r ≡ bodies.Read n → BodyWas x out n
+pub was_body : {x : (List ℕ → JobRead) → JobRead} {out : List ℕ} {r : Result ℕ Refusal} {n : ℕ} → BodyIn x out r → r ≡ Ok n → BodyWas x out n
 was_body (whole bs f q o) p = record { body = bs; goes_on = f; count = cc (sym p ∙ q); stored = o }
 was_body (faulty line f q) p = absurd (let z : ◌≡◌ {A = ℕ} 0 1 = cc (sym p ∙ q) in omega arith)
 
-pub was_bad_body : {x : (List ℕ → JobRead) → JobRead} {out : List ℕ} {r : BodyAnswer} {line : ℕ} → BodyIn x out r → r ≡ bodies.BadLine line → (then : List ℕ → JobRead) → x then ≡ bad_line line
-was_bad_body (whole bs f q o) p then = absurd (let z : ◌≡◌ {A = ℕ} 0 1 = cc (sym p ∙ q) in omega arith)
-was_bad_body {line = line} (faulty line' f q) p then = let z : line' ≡ line = cc (sym q ∙ p) in rw (sym z) (f then)
+pub was_bad_body : {x : (List ℕ → JobRead) → JobRead} {out : List ℕ} {r : Result ℕ Refusal} {f : Refusal} → BodyIn x out r → r ≡ Err f → (then : List ℕ → JobRead) → BadLine f (λ line. x then ≡ bad_line line)
+was_bad_body (whole bs g q o) p then = absurd (let z : ◌≡◌ {A = ℕ} 0 1 = cc (sym p ∙ q) in omega arith)
+was_bad_body {f = f} (faulty line g q) p then = let z : f ≡ Malformed line = cc (sym p ∙ q) in (line, z, g then)
 
 -- it has half of the job's bytes at most
 pub body_fits : (job : List ℕ) (at line : ℕ) {out : List ℕ} {n : ℕ} (b : BodyWas (with_body job at line) out n) → length job ≤ 65536 → n ≤ 32768
@@ -50,7 +53,7 @@ pub record InputsWas (x : InputsRead) (types ops : List (List ℕ)) (bytes ends 
   pub size_is : n.size ≡ length of.bytes
   pub held : Holds of types ops bytes ends
 
-pub was_inputs : {x : InputsRead} {types ops : List (List ℕ)} {bytes ends : List ℕ} {r : InputsAnswer} {n : Numbers} → InputsIn x types ops bytes ends r → r ≡ answers.Read n
+pub was_inputs : {x : InputsRead} {types ops : List (List ℕ)} {bytes ends : List ℕ} {r : Result Numbers Refusal} {n : Numbers} → InputsIn x types ops bytes ends r → r ≡ Ok n
     → InputsWas x types ops bytes ends n
 was_inputs {n = n} (whole-inputs e b line q p h) r =
     let y : ◌≡◌ {A = Numbers} n (record { end = b; line = line; largest = largest e.opcodes; count = length e.ends; size = length e.bytes }) = cc (sym r ∙ p) in
@@ -64,10 +67,10 @@ was_inputs {n = n} (whole-inputs e b line q p h) r =
     }
 was_inputs (faulty-inputs line q p) r = absurd (let z : ◌≡◌ {A = ℕ} 0 1 = cc (sym p ∙ r) in omega arith)
 
-pub was_bad_inputs : {x : InputsRead} {types ops : List (List ℕ)} {bytes ends : List ℕ} {r : InputsAnswer} {line : ℕ} → InputsIn x types ops bytes ends r → r ≡ answers.BadLine line
-    → x ≡ bad_inputs line
+pub was_bad_inputs : {x : InputsRead} {types ops : List (List ℕ)} {bytes ends : List ℕ} {r : Result Numbers Refusal} {f : Refusal} → InputsIn x types ops bytes ends r → r ≡ Err f
+    → BadLine f (λ line. x ≡ bad_inputs line)
 was_bad_inputs (whole-inputs e b' line' q p h) r = absurd (let z : ◌≡◌ {A = ℕ} 0 1 = cc (sym p ∙ r) in omega arith)
-was_bad_inputs {line = line} (faulty-inputs line' q p) r = let z : line' ≡ line = cc (sym p ∙ r) in q ∙ ap bad_inputs z
+was_bad_inputs {f = f} (faulty-inputs line q p) r = let z : f ≡ Malformed line = cc (sym r ∙ p) in (line, z, q)
 
 module _ (job : List ℕ) (start line : ℕ) {types ops : List (List ℕ)} {bytes ends : List ℕ} {n : Numbers} (w : InputsWas (inputs_at job start line) types ops bytes ends n) (h : length job ≤ 65536) where
   -- its sizes and lines

@@ -29,10 +29,11 @@ use Rattle.job.specs.declared.reader.Asked.{Asked}
 use Rattle.job.specs.declared.reader.InputsRead.{InputsRead}
 use Rattle.job.proofs.AskedLaws.{read_as, read_as_lem}
 use Rattle.job.specs.Run.{run_report}
-use Rattle.job.specs.declared.run.RunAnswer.TheVariants.{Done, Short}
+use Rattle.std.proofs.Common.{Option, Some, None}
 use Rattle.job.specs.Prints.{Prints}
 use Rattle.job.proofs.PrintLaws.{refusal_prints}
-use Rattle.job.proofs.ReadLaws.{InputsWas, inputs_held}
+use Rattle.answers.specs.declared.refusal.Refusal.{Refusal}
+use Rattle.job.proofs.ReadLaws.{BadLine, InputsWas, inputs_held}
 
 -- inputs that were read, and what is read behind them
 module _ (job : List ℕ) (start line : ℕ) {types ops : List (List ℕ)} {bytes ends : List ℕ} {read : InputsRead} (w : InputsWas (inputs_at job start line) types ops bytes ends read) (h : length job ≤ 65536) where
@@ -68,11 +69,14 @@ module _ (job : List ℕ) (start : ℕ) {types ops : List (List ℕ)} {bytes end
         rw e (inputs_prints job start 2 w h (with_second job read.end read.line) (read_carry job start) (carry_second job start w.of read.end read.line w.is_inputs) texts tableEnds p q l n before after r k)
 
 -- a malformed line of the inputs
-pub inputs_off : (job : List ℕ) (start line : ℕ) (work : Work) → inputs_at job start 2 ≡ bad_inputs line → read_work work job start ≡ bad_line line
+line_off : (job : List ℕ) (start line : ℕ) (work : Work) → inputs_at job start 2 ≡ bad_inputs line → read_work work job start ≡ bad_line line
 unfolding read_work
-inputs_off job start line works.List e = list_bad job start line e
-inputs_off job start line works.Assemble e = assemble_bad job start line e
-inputs_off job start line works.Carry e = carry_bad job start line e
+line_off job start line works.List e = list_bad job start line e
+line_off job start line works.Assemble e = assemble_bad job start line e
+line_off job start line works.Carry e = carry_bad job start line e
+
+pub inputs_off : (job : List ℕ) (start : ℕ) (work : Work) {f : Refusal} → BadLine f (λ line. inputs_at job start 2 ≡ bad_inputs line) → BadLine f (λ line. read_work work job start ≡ bad_line line)
+inputs_off job start work b = (b.0, b.1, line_off job start b.0 work b.2)
 
 -- what is printed for a job
 module _ (job before after : List ℕ) (r : ℕ) where
@@ -80,7 +84,7 @@ module _ (job before after : List ℕ) (r : ℕ) where
   unfolding printed
   large_prints h w = rw (lt-ltb job_limit (length job) h) (refusal_prints (refusal_report TooLarge) w)
 
-  pub job_prints : length job ≤ job_limit → (a : Asked) → a ≡ asked job → Prints (printed_job job (read_as a job)) before after r → Prints (printed job) before after r
+  pub job_prints : length job ≤ job_limit → (a : Option Asked) → a ≡ asked job → Prints (printed_job job (read_as a job)) before after r → Prints (printed job) before after r
   unfolding printed
   job_prints h a q w = rw (le-ltb job_limit (length job) h, read_as_lem job, sym q) w
 
@@ -93,12 +97,12 @@ module _ (job before now : List ℕ) (k : ℕ) (w : Prints (printed job) before 
   unfolding exceeds
   nothing_needed = refl
 
-  pub run_short : length now < k → (after : List ℕ) → after ≡ zeros now → Ended (run job) before [] after (run_report Short)
+  pub run_short : length now < k → (after : List ℕ) → after ≡ zeros now → Ended (run job) before [] after (run_report None)
   unfolding run_report
   run_short h after z =
       small_end (length (printed job)) (printed job) [] before [] (omega (arith, size, kept_length w.put)) after (z ∙ ap (λ (n : ℕ). replicate n 0) (kept_length w.put))
 
-  pub run_done : k ≤ length now → Ended (run job) before [] now (run_report (Done k))
+  pub run_done : k ≤ length now → Ended (run job) before [] now (run_report (Some k))
   unfolding run_report
   run_done h =
       let fits : 0 + length (printed job) ≤ length before = omega (arith, size, kept_length w.put) in

@@ -16,10 +16,8 @@ use Rattle.spec_job.proofs.TableLaws.{keyed_spread, string_more, string_off}
 use Rattle.job.specs.HexAnswers.{Lined}
 use Rattle.job.specs.TableAnswers.{Tabled}
 use Rattle.job.specs.TableAnswers.Tabled.{whole, faulty}
-use Rattle.job.specs.declared.hex.HexLine.{HexLine}
-use Rattle.job.specs.declared.hex.HexLine.TheVariants as lines
+use Rattle.std.proofs.Common.{Option, Some, None, Ok, Err}
 use Rattle.job.specs.declared.hex.HexRead.{HexRead as Numbers}
-use Rattle.job.specs.declared.table.TableAnswer.TheVariants.{Read, FaultAfter}
 use Rattle.job.proofs.HexAnswerLaws.{Wrote, was_line, was_malformed, written_opens}
 
 -- i strings were read, the lent arrays open with them, and those from `at` on complete the table. Each took twice its bytes
@@ -51,23 +49,23 @@ begin s start count bytes ends h = record {
 }
 
 module _ (s : List ℕ) (start count : ℕ) (bytes₀ ends₀ bytes ends : List ℕ) (at k i : ℕ) (g : Going s start count bytes₀ ends₀ bytes ends at k i) where
-  pub ended : count ≤ i → Tabled (strings_from count s start [] []) bytes ends (Read (record { end = at; count = i; size = k }))
+  pub ended : count ≤ i → Tabled (strings_from count s start [] []) bytes ends (Ok (record { end = at; count = i; size = k }))
   unfolding strings_from
   ended h =
       let e : count - i ≡ 0 = omega arith in
       let n : length g.seen_ends ≡ i = g.number in
       whole g.seen g.seen_ends at (g.left ∙ rw e) (rw (g.number, g.total)) (written_opens bytes₀ g.seen bytes k g.wrote) (λ l. rw n g.stored)
 
-  module _ (h : i < count) (bytes' : List ℕ) (r : HexLine) (t : Lined (keyed_hex_at (text "s=") s at) bytes k bytes' r) where
+  module _ (h : i < count) (bytes' : List ℕ) (r : Option Numbers) (t : Lined (keyed_hex_at (text "s=") s at) bytes k bytes' r) where
     less : count - i ≡ suc (count - (i + 1))
     less = omega arith
 
-    pub stopped : (ends' : List ℕ) → r ≡ lines.Malformed → Tabled (strings_from count s start [] []) bytes' ends' (FaultAfter (i + 1))
+    pub stopped : (ends' : List ℕ) → r ≡ None → Tabled (strings_from count s start [] []) bytes' ends' (Err (i + 1))
     stopped ends' q =
         let n : suc (length g.seen_ends) ≡ i + 1 = omega (arith, g.number) in
         faulty (i + 1) (g.left ∙ (rw less (string_off (count - (i + 1)) s at g.seen g.seen_ends (was_malformed t q)) ∙ ap fault_after n)) refl
 
-    module _ {n : Numbers} (q : r ≡ lines.Read n) (limit : length s ≤ 65536) where
+    module _ {n : Numbers} (q : r ≡ Some n) (limit : length s ≤ 65536) where
       abbrev b : ℕ
       b = n.end
 

@@ -1,32 +1,29 @@
 -- What reading inputs and a body answers and leaves in the lent arrays. Assumes nothing.
-use Rattle.std.specs.Prelude.{◌≡◌, List, ℕ, length}
+use Rattle.std.specs.Prelude.{◌≡◌, Option, Some, None, Result, Ok, Err, List, ℕ, length}
 use Rattle.lists.specs.Choice.{pick}
 use Rattle.lists.specs.Scan.{opens}
 use Rattle.lists.specs.Text.{text}
 use Rattle.spec_sheet.specs.Scan.{Step}
 use Rattle.spec_sheet.specs.Scan.Step.{next, off}
 use Rattle.spec_sheet.specs.Sheet.{type_rows, info_rows, largest}
-use Rattle.spec_job.specs.Job.{JobInputs, InputsRead, JobRead, read_list, read_assemble, read_carry}
+use Rattle.answers.specs.declared.refusal.Refusal.{Refusal}
+use Rattle.answers.specs.declared.refusal.Refusal.TheVariants.{Malformed}
+use Rattle.spec_job.specs.Job as definition
+use Rattle.spec_job.specs.Job.{JobInputs, JobRead, read_list, read_assemble, read_carry}
 use Rattle.spec_job.specs.Job.InputsRead.{inputs, bad_inputs}
 use Rattle.spec_job.specs.Job.JobRead.{bad_line}
 use Rattle.job.specs.TableAnswers.{Opens}
 use Rattle.job.specs.declared.reader.Work.{Work}
 use Rattle.job.specs.declared.reader.Work.TheVariants as works
 use Rattle.job.specs.declared.reader.Asked.{Asked}
-use Rattle.job.specs.declared.reader.Asked.TheVariants as jobs
-use Rattle.job.specs.declared.reader.InputsAnswer.{InputsAnswer}
-use Rattle.job.specs.declared.reader.InputsAnswer.TheVariants as answers
-use Rattle.job.specs.declared.reader.BodyAnswer.{BodyAnswer}
-use Rattle.job.specs.declared.reader.BodyAnswer.TheVariants as bodies
-use Rattle.job.specs.declared.reader.TextAnswer.{TextAnswer}
-use Rattle.job.specs.declared.reader.TextAnswer.TheVariants as texts
+use Rattle.job.specs.declared.reader.InputsRead.{InputsRead}
 
 -- a job's first line says which it is
-unfoldable pub asked : List ℕ → Asked
+unfoldable pub asked : List ℕ → Option Asked
 asked s =
-    pick (opens (text "job=list\n") s) (jobs.Job works.List 9)
-    (pick (opens (text "job=assemble\n") s) (jobs.Job works.Assemble 13)
-    (pick (opens (text "job=carry\n") s) (jobs.Job works.Carry 10) jobs.Other))
+    pick (opens (text "job=list\n") s) (Some (record { work = works.List; start = 9 }))
+    (pick (opens (text "job=assemble\n") s) (Some (record { work = works.Assemble; start = 13 }))
+    (pick (opens (text "job=carry\n") s) (Some (record { work = works.Carry; start = 10 })) None))
 
 -- and how it is read behind that line
 unfoldable pub read_work : Work → List ℕ → ℕ → JobRead
@@ -43,16 +40,16 @@ pub record Holds (e : JobInputs) (types infos : List (List ℕ)) (bytes ends : L
 
 -- inputs that evaluate to x were read, and r was answered: the place and line behind them, the largest opcode, the strings'
 -- and their bytes' number
-pub data InputsIn (x : InputsRead) (types infos : List (List ℕ)) (bytes ends : List ℕ) (r : InputsAnswer) : Type 0 where
-  whole : (e : JobInputs) (b line : ℕ) → x ≡ inputs e b line → r ≡ answers.Read (record { end = b; line = line; largest = largest e.opcodes; count = length e.ends; size = length e.bytes }) → Holds e types infos bytes ends → InputsIn x types infos bytes ends r
-  faulty : (line : ℕ) → x ≡ bad_inputs line → r ≡ answers.BadLine line → InputsIn x types infos bytes ends r
+pub data InputsIn (x : definition.InputsRead) (types infos : List (List ℕ)) (bytes ends : List ℕ) (r : Result InputsRead Refusal) : Type 0 where
+  whole : (e : JobInputs) (b line : ℕ) → x ≡ inputs e b line → r ≡ Ok (record { end = b; line = line; largest = largest e.opcodes; count = length e.ends; size = length e.bytes }) → Holds e types infos bytes ends → InputsIn x types infos bytes ends r
+  faulty : (line : ℕ) → x ≡ bad_inputs line → r ≡ Err (Malformed line) → InputsIn x types infos bytes ends r
 
 -- a body was read likewise; x continues with the body, as `withBody` does
-pub data BodyIn (x : (List ℕ → JobRead) → JobRead) (out : List ℕ) (r : BodyAnswer) : Type 0 where
-  whole : (bs : List ℕ) → ((then : List ℕ → JobRead) → x then ≡ then bs) → r ≡ bodies.Read (length bs) → Opens out bs → BodyIn x out r
-  faulty : (line : ℕ) → ((then : List ℕ → JobRead) → x then ≡ bad_line line) → r ≡ bodies.BadLine line → BodyIn x out r
+pub data BodyIn (x : (List ℕ → JobRead) → JobRead) (out : List ℕ) (r : Result ℕ Refusal) : Type 0 where
+  whole : (bs : List ℕ) → ((then : List ℕ → JobRead) → x then ≡ then bs) → r ≡ Ok (length bs) → Opens out bs → BodyIn x out r
+  faulty : (line : ℕ) → ((then : List ℕ → JobRead) → x then ≡ bad_line line) → r ≡ Err (Malformed line) → BodyIn x out r
 
 -- "`text=` instead of `body`, the text starting on the next line", by the reading of that line
-unfoldable pub text_answer : Step → ℕ → TextAnswer
-text_answer (next value at) line = texts.From at
-text_answer off line = texts.BadLine line
+unfoldable pub text_answer : Step → ℕ → Result ℕ Refusal
+text_answer (next value at) line = Ok at
+text_answer off line = Err (Malformed line)

@@ -5,88 +5,56 @@ ghost use Rattle.spec_sheet.specs.Line.{Op};
 ghost use Rattle.spec_sheet.specs.Sheet.{type_rows, info_rows};
 ghost use Rattle.spec_job.specs.Job.{with_text};
 ghost use Rattle.spec_job.specs.Printed.{assemble_under, printed_job};
+ghost use Rattle.answers.specs.Answers.{answer_report};
 ghost use Rattle.answers.specs.Outcome.{Ended};
-ghost use Rattle.assemble.specs.Answers.{assemble_report};
 ghost use Rattle.job.specs.Prints.{Prints};
 
-use crate::printed::refused;
-use crate::reader::{InputsRead, TextAnswer};
-use answers::refusal::Refusal;
-use assemble::answer::AssembleAnswer;
+use crate::printed::{put_answer, refused};
+use crate::reader::{Inputs, MOST_LABELS, MOST_OUTPUT, text_at};
+use answers::failure::{Answer, Failure};
+use answers::report::Numbers;
 use hasm_labels::label_entry::Slot;
-use operation::inputs::Inputs;
-use slices::write::clear;
+use operation::inputs::check_table;
+use slices::clearing::clear;
+use slices::space::zeroed;
 use strings::text_index::SOME_INDEX;
 
-// The 4,096 label entries that the program lends. No contract, since the type says the length.
-fn label_space() -> [Slot; limits::JOB_LABELS] {
-    [[0; 3]; limits::JOB_LABELS]
-}
-
-// Space for the index of a job's strings, of which there are no more than SOME_STRINGS.
-fn id_space() -> [u32; SOME_INDEX] {
-    [0; SOME_INDEX]
-}
-
-// Assembles the text of a job whose lines are in order: 17, then as assembling a text, which asks for no largest opcode.
-fn assemble_inputs(
-    job: &[u8],
-    types: &[[u8; 8]; 256],
-    ops: &[[usize; 4]; 256],
-    bytes: &[u8],
-    ends: &[u32],
-    text: &[u8],
-    out: &mut [u8],
-) -> AssembleAnswer
-    requires { (length text.now ≤ job_limit) × (length ends.now ≤ job_string_limit) }
-    ensures ended { (os : List Op) → types.now ≡ type_rows os → ops.now ≡ info_rows os → Ended (assemble_under job.now (record { opcodes = os; bytes = bytes.now; ends = ends.now }) text.now) out.old (job_labels ∷ []) out.new (assemble_report result) }
-    ensures result_in_bounds { (assemble_report result).length ≤ length out.old }
+// Assembles the text of a job whose lines are in order: 17, then as assembling a text, which asks for no largest opcode. A job has no
+// more than SOME_STRINGS strings. The program lends 4,096 label entries.
+fn assemble_inputs(inputs: Inputs<'_>, source: &[u8], out: &mut [u8]) -> Answer
+    requires { (length source.now ≤ job_limit) × (length inputs.strings.ends.now ≤ job_string_limit) }
+    ensures ended { (os : List Op) → inputs.entry.tables.types.now ≡ type_rows os → inputs.entry.tables.ops.now ≡ info_rows os → Ended (assemble_under inputs.entry.tables.text.now (record { opcodes = os; bytes = inputs.entry.strings.bytes.now; ends = inputs.entry.strings.ends.now }) source.now) out.old (job_labels ∷ []) out.new (answer_report result) }
+    ensures result_in_bounds { (answer_report result).length ≤ length out.old }
 {
-    let i = operation::inputs::table_inputs(0, bytes, ends);
-    match i {
-        Inputs::Ready(_) => {
-            let mut ids = id_space();
-            let mut labels = label_space();
-            assemble::passes::assemble_under(
-                &mut ids,
-                job,
-                types,
-                ops,
-                bytes,
-                ends,
-                text,
-                out,
-                &mut labels,
-            )
-        }
-        Inputs::Refused(x) => {
-            clear(out);
-            AssembleAnswer::Refused(x)
-        }
+    if let Err(x) = check_table(inputs.strings) {
+        clear(out, 0);
+        return Err(Failure::Refused(x));
     }
+    let mut ids = zeroed::<u32, SOME_INDEX>(0);
+    let mut labels = zeroed::<Slot, MOST_LABELS>([0; 3]);
+    assemble::passes::assemble_under(
+        &mut ids,
+        inputs.tables,
+        inputs.strings,
+        source,
+        out,
+        &mut labels,
+    )
 }
 
 // Prints the body that the job's text is assembled to, under the inputs that were read before it. The line `text=` stands
 // behind them.
-pub(crate) fn print_assembled(
-    job: &[u8],
-    read: InputsRead,
-    types: &[[u8; 8]; 256],
-    ops: &[[usize; 4]; 256],
-    bytes: &[u8],
-    ends: &[u32],
-    text: &mut [u8],
-) -> usize
-    requires { (length job.now ≤ job_limit) × (length ends.now ≤ job_string_limit) }
-    ensures { (os : List Op) → types.now ≡ type_rows os → ops.now ≡ info_rows os → Prints (printed_job job.now (with_text job.now read.end read.line (record { opcodes = os; bytes = bytes.now; ends = ends.now }))) text.old text.new result }
+pub(crate) fn print_assembled(inputs: Inputs<'_>, text: &mut [u8]) -> usize
+    requires { (length inputs.tables.text.now ≤ job_limit) × (length inputs.strings.ends.now ≤ job_string_limit) }
+    ensures { (os : List Op) → inputs.entry.tables.types.now ≡ type_rows os → inputs.entry.tables.ops.now ≡ info_rows os → Prints (printed_job inputs.entry.tables.text.now (with_text inputs.entry.tables.text.now inputs.entry.read.end inputs.entry.read.line (record { opcodes = os; bytes = inputs.entry.strings.bytes.now; ends = inputs.entry.strings.ends.now }))) text.old text.new result }
 {
-    let t = crate::reader::text_at(job, read.end, read.line);
-    match t {
-        TextAnswer::From(b) => {
-            let mut out = crate::printed::output_space();
-            let a = assemble_inputs(job, types, ops, bytes, ends, &job[b..], &mut out);
-            crate::printed::put_answer(true, assemble::answer::assemble_numbers(a), &out, text)
+    let job = inputs.tables.text;
+    match text_at(job, inputs.read.end, inputs.read.line) {
+        Ok(start) => {
+            let mut out = zeroed::<u8, MOST_OUTPUT>(0);
+            let answer = assemble_inputs(inputs, &job[start..], &mut out);
+            put_answer(true, Numbers::from(answer), &out, text)
         }
-        TextAnswer::BadLine(bad) => refused(text, Refusal::Malformed(bad)),
+        Err(x) => refused(text, x),
     }
 }

@@ -12,11 +12,6 @@ use answers::report::Numbers;
 use numbers::print_decimal::put_decimal;
 use slices::write::put_bytes;
 
-// The output that the program lends to an operation. No contract, since the type says the length.
-pub(crate) fn output_space() -> [u8; limits::JOB_OUTPUT] {
-    [0; limits::JOB_OUTPUT]
-}
-
 // Writes `refused=N place=P operand=Q` and LF.
 fn put_refused(out: &mut [u8], n: Numbers) -> usize
     ensures { Put out.old 0 (refused_text (report_in n)) out.new result }
@@ -34,7 +29,7 @@ fn put_refused(out: &mut [u8], n: Numbers) -> usize
 pub(crate) fn refused(out: &mut [u8], x: Refusal) -> usize
     ensures { Put out.old 0 (refused_text (refusal_report x)) out.new result }
 {
-    put_refused(out, answers::report::refusal_numbers(x))
+    put_refused(out, Numbers::from(x))
 }
 
 // Writes two upper-case digits a byte.
@@ -43,10 +38,8 @@ fn put_hex_bytes(out: &mut [u8], at: usize, s: &[u8]) -> usize
     ensures s_len { length (hex_of s.now) ≡ 2 * length s.now }
 {
     let mut k = at;
-    let mut i: usize = 0;
-    while i < s.len() {
-        k = numbers::print_hex::put_hex_byte(out, k, s[i]);
-        i += 1;
+    for &b in s {
+        k = numbers::print_hex::put_hex_byte(out, k, b);
     }
     k
 }

@@ -6,10 +6,9 @@ ghost use Rattle.spec_sheet.specs.Scan.{literal_at};
 ghost use Rattle.spec_job.specs.Job.{inputs_at, with_body};
 ghost use Rattle.job.specs.ReaderAnswers.{asked, InputsIn, BodyIn, text_answer};
 
-use crate::hex::HexLine;
-use crate::table::TableAnswer;
-use sheet::opcode::Sheet;
-use sheet::scan::Step;
+use answers::refusal::Refusal;
+use sheet::tables::Tables;
+use strings::table::StringTable;
 
 // What a job asks for.
 #[derive(Clone, Copy)]
@@ -19,43 +18,47 @@ pub(crate) enum Work {
     Carry,
 }
 
-// What its first line says: what it asks for, and where the next line stands; or none of these.
+// What its first line says: what it asks for, and where the next line stands.
 #[derive(Clone, Copy)]
-pub(crate) enum Asked {
-    Job(Work, usize),
-    Other,
+pub(crate) struct Asked {
+    pub work: Work,
+    pub start: usize,
 }
 
-pub(crate) fn which_job(s: &[u8]) -> Asked
+// None where the first line is none of a job.
+pub(crate) fn which_job(s: &[u8]) -> Option<Asked>
     ensures { result ≡ asked s.now }
 {
     if slices::compare::opens_at(s, 0, b"job=list\n") {
-        return Asked::Job(Work::List, 9);
+        return Some(Asked {
+            work: Work::List,
+            start: 9,
+        });
     }
     if slices::compare::opens_at(s, 0, b"job=assemble\n") {
-        return Asked::Job(Work::Assemble, 13);
+        return Some(Asked {
+            work: Work::Assemble,
+            start: 13,
+        });
     }
     if slices::compare::opens_at(s, 0, b"job=carry\n") {
-        return Asked::Job(Work::Carry, 10);
+        return Some(Asked {
+            work: Work::Carry,
+            start: 10,
+        });
     }
-    Asked::Other
+    None
 }
 
 // The most bytes that a job can write in hex: two digits make a byte.
-const HEX_BYTES: usize = limits::JOB_LIMIT / 2;
+pub(crate) const HEX_BYTES: usize = limits::JOB_LIMIT / 2;
 
-// Space for a job's strings, or for its body. No contract, since the functions below say what they leave.
-pub(crate) fn string_space() -> [u8; HEX_BYTES] {
-    [0; HEX_BYTES]
-}
+// The most strings of a table, the bytes of output and the label entries that the program lends.
+pub(crate) const MOST_STRINGS: usize = limits::JOB_STRING_LIMIT;
 
-pub(crate) fn body_space() -> [u8; HEX_BYTES] {
-    [0; HEX_BYTES]
-}
+pub(crate) const MOST_OUTPUT: usize = limits::JOB_OUTPUT;
 
-pub(crate) fn end_space() -> [u32; limits::JOB_STRING_LIMIT] {
-    [0; limits::JOB_STRING_LIMIT]
-}
+pub(crate) const MOST_LABELS: usize = limits::JOB_LABELS;
 
 // Inputs that were read: the place behind them and the number of the line there, the largest opcode, how many strings
 // there are and how many bytes these have.
@@ -68,14 +71,16 @@ pub(crate) struct InputsRead {
     pub size: usize,
 }
 
-// What reading inputs answers: the inputs, or the malformed line, numbered in the job.
+// Inputs that were read, with the sheet's tables, whose names are parts of the job, and the string table.
 #[derive(Clone, Copy)]
-pub(crate) enum InputsAnswer {
-    Read(InputsRead),
-    BadLine(usize),
+pub(crate) struct Inputs<'a> {
+    pub read: InputsRead,
+    pub tables: Tables<'a>,
+    pub strings: StringTable<'a>,
 }
 
-// The inputs that stand at `at`, on the job's line `line`: the sheet's tables by opcode, then the strings.
+// The inputs that stand at `at`, on the job's line `line`: the sheet's tables by opcode, then the strings. A malformed line is numbered
+// in the job.
 pub(crate) fn inputs_at(
     s: &[u8],
     at: usize,
@@ -84,66 +89,49 @@ pub(crate) fn inputs_at(
     ops: &mut [[usize; 4]; 256],
     bytes: &mut [u8],
     ends: &mut [u32],
-) -> InputsAnswer
+) -> Result<InputsRead, Refusal>
     requires { (length s.now ≤ job_limit) × (line ≤ job_limit) × (job_string_limit ≤ length ends.old) }
     ensures { InputsIn (inputs_at s.now at line) types.new ops.new bytes.new ends.new result }
 {
-    let r = sheet::opcode::sheet_at(s, at, types, ops);
-    match r {
-        Sheet::Read(sheet) => {
-            let strings_line = line + 2 + sheet.count;
-            let t = crate::table::table_at(s, sheet.end, bytes, ends);
-            match t {
-                TableAnswer::Read(table) => InputsAnswer::Read(InputsRead {
-                    end: table.end,
-                    line: strings_line + 1 + table.count,
-                    largest: sheet.largest,
-                    count: table.count,
-                    size: table.size,
-                }),
-                TableAnswer::FaultAfter(k) => InputsAnswer::BadLine(strings_line + k),
-            }
+    let sheet = match sheet::opcode::sheet_at(s, at, types, ops) {
+        Ok(sheet) => sheet,
+        Err(x) => {
+            // A sheet is refused for nothing else.
+            let Refusal::Malformed(k) = x else {
+                return Err(x);
+            };
+            return Err(Refusal::Malformed(line + k - 1));
         }
-        Sheet::Malformed(k) => InputsAnswer::BadLine(line + k - 1),
-    }
+    };
+    let strings_line = line + 2 + sheet.count;
+    let table = match crate::table::table_at(s, sheet.end, bytes, ends) {
+        Ok(table) => table,
+        Err(k) => return Err(Refusal::Malformed(strings_line + k)),
+    };
+    Ok(InputsRead {
+        end: table.end,
+        line: strings_line + 1 + table.count,
+        largest: sheet.largest,
+        count: table.count,
+        size: table.size,
+    })
 }
 
-// How many bytes a body has; or the malformed line, numbered in the job.
-#[derive(Clone, Copy)]
-pub(crate) enum BodyAnswer {
-    Read(usize),
-    BadLine(usize),
-}
-
-// The body that stands at `at`, on the job's line `line`, with nothing behind it. Its bytes are kept where they fit.
-pub(crate) fn body_at(s: &[u8], at: usize, line: usize, out: &mut [u8]) -> BodyAnswer
+// The body that stands at `at`, on the job's line `line`, with nothing behind it: how many bytes it has. They are kept where they fit.
+pub(crate) fn body_at(s: &[u8], at: usize, line: usize, out: &mut [u8]) -> Result<usize, Refusal>
     requires { line ≤ job_limit }
     ensures { BodyIn (with_body s.now at line) out.new result }
 {
-    let l = crate::hex::keyed_hex_at(s, at, b"body=", out, 0);
-    let HexLine::Read(body) = l else {
-        return BodyAnswer::BadLine(line);
-    };
+    let body = crate::hex::keyed_hex_at(s, at, b"body=", out, 0).ok_or(Refusal::Malformed(line))?;
     if body.end == s.len() {
-        return BodyAnswer::Read(body.next);
+        return Ok(body.next);
     }
-    BodyAnswer::BadLine(line + 1)
+    Err(Refusal::Malformed(line + 1))
 }
 
-// Where a text starts; or the malformed line, numbered in the job.
-#[derive(Clone, Copy)]
-pub(crate) enum TextAnswer {
-    From(usize),
-    BadLine(usize),
-}
-
-// The text whose line `text=` stands at `at`, on the job's line `line`: it starts on the next line.
-pub(crate) fn text_at(s: &[u8], at: usize, line: usize) -> TextAnswer
+// Where the text starts whose line `text=` stands at `at`, on the job's line `line`: on the next line.
+pub(crate) fn text_at(s: &[u8], at: usize, line: usize) -> Result<usize, Refusal>
     ensures { result ≡ text_answer (literal_at (text "text=\n") s.now at) line }
 {
-    let l = sheet::scan::literal_at(s, at, b"text=\n");
-    match l {
-        Step::Next(_, b) => TextAnswer::From(b),
-        Step::Off => TextAnswer::BadLine(line),
-    }
+    sheet::scan::literal_at(s, at, b"text=\n").ok_or(Refusal::Malformed(line))
 }

@@ -9,9 +9,12 @@ ghost use Rattle.job.specs.ReaderAnswers.{read_work};
 ghost use Rattle.job.specs.Prints.{Prints};
 
 use crate::printed::refused;
-use crate::reader::{Asked, InputsAnswer, Work};
+use crate::reader::{Asked, HEX_BYTES, Inputs, MOST_STRINGS, Work, inputs_at, which_job};
 use answers::refusal::Refusal;
-use slices::write::clear;
+use sheet::tables::Tables;
+use slices::clearing::clear;
+use slices::space::zeroed;
+use strings::table::StringTable;
 
 // Prints a job whose inputs stand at `start`, behind the line that says what it asks for.
 fn print_job(work: Work, job: &[u8], start: usize, text: &mut [u8]) -> usize
@@ -20,30 +23,28 @@ fn print_job(work: Work, job: &[u8], start: usize, text: &mut [u8]) -> usize
 {
     let mut types = [[0u8; 8]; 256];
     let mut ops = [[0usize; 4]; 256];
-    let mut bytes = crate::reader::string_space();
-    let mut ends = crate::reader::end_space();
-    let e = crate::reader::inputs_at(job, start, 2, &mut types, &mut ops, &mut bytes, &mut ends);
-    match e {
-        InputsAnswer::Read(read) => {
-            let size = read.size;
-            let count = read.count;
-            let texts = &bytes[0..size];
-            let table_ends = &ends[0..count];
-            match work {
-                Work::List => {
-                    crate::list_job::print_list(job, read, &types, &ops, texts, table_ends, text)
-                }
-                Work::Assemble => {
-                    crate::assemble_job::print_assembled(
-                        job, read, &types, &ops, texts, table_ends, text,
-                    )
-                }
-                Work::Carry => {
-                    crate::carry_job::print_carry(job, read, &types, &ops, texts, table_ends, text)
-                }
-            }
-        }
-        InputsAnswer::BadLine(bad) => refused(text, Refusal::Malformed(bad)),
+    let mut bytes = zeroed::<u8, HEX_BYTES>(0);
+    let mut ends = zeroed::<u32, MOST_STRINGS>(0);
+    let read = match inputs_at(job, start, 2, &mut types, &mut ops, &mut bytes, &mut ends) {
+        Ok(read) => read,
+        Err(x) => return refused(text, x),
+    };
+    let inputs = Inputs {
+        read,
+        tables: Tables {
+            text: job,
+            types: &types,
+            ops: &ops,
+        },
+        strings: StringTable {
+            bytes: &bytes[0..read.size],
+            ends: &ends[0..read.count],
+        },
+    };
+    match work {
+        Work::List => crate::list_job::print_list(inputs, text),
+        Work::Assemble => crate::assemble_job::print_assembled(inputs, text),
+        Work::Carry => crate::carry_job::print_carry(inputs, text),
     }
 }
 
@@ -54,28 +55,21 @@ fn print(job: &[u8], text: &mut [u8]) -> usize
     if limits::JOB_LIMIT < job.len() {
         return refused(text, Refusal::TooLarge);
     }
-    let w = crate::reader::which_job(job);
-    match w {
-        Asked::Job(work, start) => print_job(work, job, start, text),
-        Asked::Other => refused(text, Refusal::Malformed(1)),
+    match which_job(job) {
+        Some(Asked { work, start }) => print_job(work, job, start, text),
+        None => refused(text, Refusal::Malformed(1)),
     }
 }
 
-// What the program's function answers. The definition run_report gives each case its number and length.
-#[derive(Clone, Copy)]
-pub enum RunAnswer {
-    Done(usize),
-    Short,
-}
-
-// Writes what the program prints for a job to the front of `text`.
-pub fn run(job: &[u8], text: &mut [u8]) -> RunAnswer
+// Writes what the program prints for a job to the front of `text`, and answers how many bytes that are; nothing where there is no room
+// for them. The definition run_report gives each case its number and length.
+pub fn run(job: &[u8], text: &mut [u8]) -> Option<usize>
     ensures { Ended (operation.run job.now) text.old [] text.new (run_report result) }
 {
     let k = print(job, text);
     if text.len() < k {
-        clear(text);
-        return RunAnswer::Short;
+        clear(text, 0);
+        return None;
     }
-    RunAnswer::Done(k)
+    Some(k)
 }

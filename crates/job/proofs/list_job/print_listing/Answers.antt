@@ -6,10 +6,10 @@ use Rattle.job.proofs.ListLaws.{listing_prints}
 use Rattle.job.proofs.list_job.print_listing.Goals as goal
 
 pub put_answer-requires : goal.put_answer-requires
-put_answer-requires c = (omega (arith, length_told c.list_numbers.ensures, c.list_inputs-a.ensures.result_in_bounds, c.list_inputs-a.auto), omega (arith, c.list_inputs-a.auto))
+put_answer-requires c = (omega (arith, length_told c.from.ensures, c.list_inputs-answer.ensures.result_in_bounds, c.list_inputs-answer.auto), omega (arith, c.list_inputs-answer.auto))
 
 pub returns : goal.returns
 returns c = λ os t o a.
     let x = c.args in
-    listing_prints x.job.now (record { opcodes = os; bytes = x.bytes.now; ends = x.ends.now }) x.body.now _ _ _ (omega arith) (c.list_inputs-a.ensures.ended os t o a)
-    (report_print _ _ _ _ (same_report c.list_numbers.ensures) c.put_answer.ensures)
+    listing_prints x.inputs.tables.text.now (record { opcodes = os; bytes = x.inputs.strings.bytes.now; ends = x.inputs.strings.ends.now }) x.body.now _ _ _ (omega arith) (c.list_inputs-answer.ensures.ended os t o a)
+    (report_print _ _ _ _ (same_report c.from.ensures) c.put_answer.ensures)

@@ -1,5 +1,5 @@
 use mathlib.Core.Path.{refl, sym, ◌∙◌}
-use Rattle.job.specs.declared.reader.Asked.TheVariants as jobs
+use Rattle.std.proofs.Common.{None}
 use Rattle.job.proofs.AskedLaws.{read_as}
 use Rattle.job.proofs.PrintLaws.{line_prints}
 use Rattle.job.proofs.RunLaws.{large_prints, job_prints}
@@ -11,10 +11,10 @@ returns-then-job-gt-JOB_LIMIT c = large_prints _ _ _ _ c.if-job-gt-JOB_LIMIT.tru
 pub print_job-requires : goal.print_job-requires
 print_job-requires c = c.if-job-gt-JOB_LIMIT.false
 
-pub returns-in-Job : goal.returns-in-Job
+pub returns-in-Some : goal.returns-in-Some
 unfolding read_as
-returns-in-Job c = job_prints _ _ _ _ c.if-job-gt-JOB_LIMIT.false (jobs.Job c.in-Job.work c.in-Job.start) (sym c.in-Job.is ∙ c.which_job-w.ensures) c.print_job.ensures
+returns-in-Some c = job_prints _ _ _ _ c.if-job-gt-JOB_LIMIT.false _ (sym c.in-Some.is ∙ c.which_job.ensures) c.print_job.ensures
 
-pub returns-in-Other : goal.returns-in-Other
+pub returns-in-None : goal.returns-in-None
 unfolding read_as
-returns-in-Other c = job_prints _ _ _ _ c.if-job-gt-JOB_LIMIT.false jobs.Other (sym c.in-Other.is ∙ c.which_job-w.ensures) (line_prints c.args.job.now refl c.refused-in-Other.ensures)
+returns-in-None c = job_prints _ _ _ _ c.if-job-gt-JOB_LIMIT.false None (sym c.in-None.is ∙ c.which_job.ensures) (line_prints c.args.job.now refl c.refused-in-None.ensures)

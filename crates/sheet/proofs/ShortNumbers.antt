@@ -2,16 +2,18 @@
 use mathlib.Core.Path.{◌≡◌, refl, ap, sym, ◌∙◌}
 use mathlib.Core.Bool.{true, false}
 use mathlib.Core.List.{List, [], ◌∷◌, ◌++◌}
-use Prim.Native.Nat.{ℕ, suc, ◌+◌, ◌-◌, ◌*◌, ◌≤◌, ◌<◌}
+use Prim.Native.Nat.{ℕ, ◌+◌, ◌-◌, ◌*◌, ◌≤◌, ◌<◌}
 use native.Mathlib.Omega.{arith}
 use lib.Dec.{eqb, ltb}
-use lib.ListN.{length, drop, take, get_or}
-use lib.Seq.{drop-cons}
-use borrow.Author.Tests.{ne_eqb}
-use Rattle.lists.specs.Choice.{both, within}
+use lib.ListN.{length, drop, take, get_or, take-append-drop, length-drop, drop_of_length-le}
+use lib.Seq.{drop-cons, drop-drop, take-suc, get_or-drop}
+use native.Mathlib.Numerals.{add-one}
+use Rattle.lists.proofs.Parts.{part_at, part_length}
+use borrow.Author.Tests.{ne_eqb, le-ltb}
+use Rattle.lists.specs.Choice.{both}
 use Rattle.lists.specs.Scan.{run, all, part}
-use Rattle.lists.proofs.Scans.{run_stops, all_cons}
-use Rattle.lists.proofs.Tests.{within_yes, within_least, within_most, both_no_right}
+use Rattle.lists.proofs.Scans.{run_stops, all_cons, all_append}
+use Rattle.lists.proofs.Tests.{by_leb, within_least, within_most, both_no_right}
 use Rattle.spec_numbers.specs.Parse.{digit_value, digits_value, unsigned_value}
 use Rattle.spec_numbers.specs.Parse.Parsed.{is}
 use Rattle.spec_numbers.proofs.ParseLaws.{value_of_digit, value_step}
@@ -27,71 +29,59 @@ digit_step n b s d h =
     let e : digit_value b ≡ b - 48 = value_of_digit b l m in
     rw e at (value_step 10 255 n b s (omega (arith, e, m)) (omega (arith, e)))
 
-first_step : (b : ℕ) (s : List ℕ) → is_digit b ≡ true → digits_value 10 255 0 (b ∷ s) ≡ digits_value 10 255 (b - 48) s
-first_step b s d =
-    let m = within_most 48 57 b d in
-    let z : 0 * 10 + (b - 48) ≡ b - 48 = omega arith in
-    rw z at (digit_step 0 b s d (omega arith))
+-- a number of one digit at least
+some_digits : (ds : List ℕ) (b : ℕ) (t : List ℕ) (n : ℕ) → ds ≡ b ∷ t → digits_value 10 255 0 ds ≡ is n → unsigned_value 10 255 ds ≡ is n
+unfolding unsigned_value
+some_digits ds b t n e f = rw e (rw e at f)
 
--- a number that is told by another word for its value
-pub worth : (s : List ℕ) (at m n b : ℕ) → number_at 255 s at ≡ next n b → m ≡ n → number_at 255 s at ≡ next m b
-worth s at m n b e f = rw (sym f) at e
+-- i digits were read, of those that stand in front of a space
+pub record Going (s : List ℕ) (at size n i : ℕ) : Type 0 where
+  pub few : i ≤ size
+  pub small : n ≤ 255
+  pub digits : all is_digit (part s at i) ≡ true
+  pub left : digits_value 10 255 0 (part s at size) ≡ digits_value 10 255 n (drop i (part s at size))
 
-module _ (s : List ℕ) (at : ℕ) where
-  -- digits, a space behind them, and what they are worth
-  number_of : (ds t : List ℕ) (v : ℕ) → drop at s ≡ ds ++ 32 ∷ t → part s at (length ds) ≡ ds → all is_digit ds ≡ true
-      → both (ltb 1 (length ds)) (eqb (get_or s at 0) 48) ≡ false → unsigned_value 10 255 ds ≡ is v → number_at 255 s at ≡ next v (at + length ds)
-  number_of ds t v e q d p u =
-      let r : run is_digit (drop at s) ≡ length ds = ap (run is_digit) e ∙ run_stops is_digit ds 32 t d refl in
-      number_value s at (length ds) 255 v (sym r) p (rw q u)
+module _ (s : List ℕ) (at size : ℕ) where
+  pub start : Going s at size 0 0
+  unfolding all
+  start = record { few = omega arith; small = omega arith; digits = refl; left = refl }
 
-  open_at : (i j : ℕ) → j ≡ suc i → i < length s → drop i s ≡ get_or s i 0 ∷ drop j s
-  open_at i j e h = rw e (drop-cons s i 0 h)
+  module _ (inside : at + size < length s) where
+    part_here : (i : ℕ) → i < size → drop i (part s at size) ≡ get_or s (at + i) 0 ∷ drop (i + 1) (part s at size)
+    part_here i l =
+        let h : i < length (part s at size) = omega (arith, part_length s at size (omega arith)) in
+        let e : get_or (part s at size) i 0 ≡ get_or s (at + i) 0 = part_at s at size i 0 l in
+        drop-cons (part s at size) i 0 h ∙ rw (e, add-one i) refl
 
-  module _ (h : at + 4 ≤ length s) where
-    pub one_read : get_or s (at + 1) 0 ≡ 32 → is_digit (get_or s at 0) ≡ true → number_at 255 s at ≡ next (get_or s at 0 - 48) (at + 1)
-    unfolding all unsigned_value digits_value
-    one_read z d =
-        let a = get_or s at 0 in
-        let t = drop (at + 2) s in
-        let e : drop at s ≡ a ∷ 32 ∷ t = open_at at (at + 1) (omega arith) (omega arith) ∙ ap (λ (r : List ℕ). a ∷ r) (rw z at (open_at (at + 1) (at + 2) (omega arith) (omega arith))) in
-        let m = within_most 48 57 a d in
-        number_of (a ∷ []) t (a - 48) e (ap (take 1) e) (all_cons is_digit a [] d refl) refl (first_step a [] d)
+    more_digits : (i : ℕ) → i < size → all is_digit (part s at i) ≡ true → is_digit (get_or s (at + i) 0) ≡ true → all is_digit (part s at (i + 1)) ≡ true
+    unfolding all
+    more_digits i l e d =
+        let t = drop at s in
+        let h : i < length t = omega (arith, length-drop at s) in
+        let q : get_or t i 0 ≡ get_or s (at + i) 0 = rw get_or-drop in
+        rw (add-one i, take-suc t i 0 h) (all_append is_digit (take i t) (get_or t i 0 ∷ []) e (all_cons is_digit (get_or t i 0) [] (rw (sym q) at d) refl))
 
-    pub two_read : get_or s (at + 2) 0 ≡ 32 → within 49 57 (get_or s at 0) ≡ true → is_digit (get_or s (at + 1) 0) ≡ true
-        → number_at 255 s at ≡ next ((get_or s at 0 - 48) * 10 + (get_or s (at + 1) 0 - 48)) (at + 2)
-    unfolding all unsigned_value digits_value
-    two_read z w d =
-        let a = get_or s at 0 in
-        let b = get_or s (at + 1) 0 in
-        let t = drop (at + 3) s in
-        let e : drop at s ≡ a ∷ b ∷ 32 ∷ t =
-        open_at at (at + 1) (omega arith) (omega arith) ∙ ap (λ (r : List ℕ). a ∷ r) (open_at (at + 1) (at + 2) (omega arith) (omega arith) ∙ ap (λ (r : List ℕ). b ∷ r) (rw z at (open_at (at + 2) (at + 3) (omega arith) (omega arith)))) in
-        let l = within_least 49 57 a w in
-        let m = within_most 49 57 a w in
-        let n = within_most 48 57 b d in
-        let f = within_yes 48 57 a (omega arith) m in
-        number_of (a ∷ b ∷ []) t ((a - 48) * 10 + (b - 48)) e (ap (take 2) e)
-        (all_cons is_digit a (b ∷ []) f (all_cons is_digit b [] d refl))
-        (both_no_right (ltb 1 2) (eqb a 48) (ne_eqb a 48 (λ q. omega arith)))
-        (first_step a (b ∷ []) f ∙ digit_step (a - 48) b [] d (omega arith))
+    pub turn : (n i m : ℕ) → Going s at size n i → i < size → is_digit (get_or s (at + i) 0) ≡ true → m ≡ n * 10 + (get_or s (at + i) 0 - 48) → m ≤ 255 → Going s at size m (i + 1)
+    turn n i m g l d e h =
+        record {
+          few = omega arith;
+          small = h;
+          digits = more_digits i l g.digits d;
+          left = g.left ∙ (rw (part_here i l, e) (digit_step n (get_or s (at + i) 0) (drop (i + 1) (part s at size)) d (omega (arith, e, h))));
+        }
 
-    pub three_read : get_or s (at + 3) 0 ≡ 32 → within 49 57 (get_or s at 0) ≡ true → is_digit (get_or s (at + 1) 0) ≡ true → is_digit (get_or s (at + 2) 0) ≡ true
-        → ((get_or s at 0 - 48) * 10 + (get_or s (at + 1) 0 - 48)) * 10 + (get_or s (at + 2) 0 - 48) ≤ 255
-        → number_at 255 s at ≡ next (((get_or s at 0 - 48) * 10 + (get_or s (at + 1) 0 - 48)) * 10 + (get_or s (at + 2) 0 - 48)) (at + 3)
-    unfolding all unsigned_value digits_value
-    three_read z w d g o =
-        let a = get_or s at 0 in
-        let b = get_or s (at + 1) 0 in
-        let c = get_or s (at + 2) 0 in
-        let t = drop (at + 4) s in
-        let e : drop at s ≡ a ∷ b ∷ c ∷ 32 ∷ t =
-        open_at at (at + 1) (omega arith) (omega arith) ∙ ap (λ (r : List ℕ). a ∷ r) (open_at (at + 1) (at + 2) (omega arith) (omega arith) ∙ ap (λ (r : List ℕ). b ∷ r)
-        (open_at (at + 2) (at + 3) (omega arith) (omega arith) ∙ ap (λ (r : List ℕ). c ∷ r) (rw z at (open_at (at + 3) (at + 4) (omega arith) (omega arith))))) in
-        let l = within_least 49 57 a w in
-        let m = within_most 49 57 a w in
-        let f = within_yes 48 57 a (omega arith) m in
-        number_of (a ∷ b ∷ c ∷ []) t (((a - 48) * 10 + (b - 48)) * 10 + (c - 48)) e (ap (take 3) e)
-        (all_cons is_digit a (b ∷ c ∷ []) f (all_cons is_digit b (c ∷ []) d (all_cons is_digit c [] g refl)))
-        (both_no_right (ltb 1 3) (eqb a 48) (ne_eqb a 48 (λ q. omega arith)))
-        (first_step a (b ∷ c ∷ []) f ∙ (digit_step (a - 48) b (c ∷ []) d (omega arith) ∙ digit_step ((a - 48) * 10 + (b - 48)) c [] g (omega arith)))
+    pub short_read : (n : ℕ) → get_or s (at + size) 0 ≡ 32 → 0 < size → Going s at size n size → (1 < size → get_or s at 0 ≡ 48 → ⊥) → number_at 255 s at ≡ next n (at + size)
+    unfolding digits_value
+    short_read n space o g z =
+        let ds = part s at size in
+        let l : length ds ≡ size = part_length s at size (omega arith) in
+        let t = drop (at + size + 1) s in
+        let w : drop (at + size) s ≡ get_or s (at + size) 0 ∷ t = rw (add-one (at + size)) (drop-cons s (at + size) 0 inside) in
+        let d : drop at s ≡ ds ++ 32 ∷ t = sym (take-append-drop size (drop at s)) ∙ ap (λ (r : List ℕ). ds ++ r) (drop-drop size at s ∙ (rw space at w)) in
+        let r : run is_digit (drop at s) ≡ size = ap (run is_digit) d ∙ (run_stops is_digit ds 32 t g.digits refl ∙ l) in
+        let v : digits_value 10 255 0 ds ≡ is n =
+        let k : length ds ≤ size = omega (arith, l) in
+        g.left ∙ rw (drop_of_length-le ds k) refl in
+        let p : both (ltb 1 size) (eqb (get_or s at 0) 48) ≡ false =
+        by_leb size 1 (λ h. rw (le-ltb 1 size h) refl) (λ h. both_no_right (ltb 1 size) _ (ne_eqb (get_or s at 0) 48 (z h))) in
+        number_value s at size 255 n (sym r) p (some_digits ds _ _ n (part_here 0 o) v)

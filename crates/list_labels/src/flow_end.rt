@@ -9,19 +9,12 @@ use slices::compare::same_bytes;
 fn is_flow_end(name: &[u8]) -> bool
     ensures { result ≡ ends_flow name.now }
 {
-    if name.len() == 3 {
-        if same_bytes(name, b"Ret") {
-            return true;
-        }
-        return same_bytes(name, b"Jmp");
+    match name.len() {
+        3 => same_bytes(name, b"Ret") || same_bytes(name, b"Jmp"),
+        5 => same_bytes(name, b"Throw"),
+        7 => same_bytes(name, b"JmpLong"),
+        _ => false,
     }
-    if name.len() == 5 {
-        return same_bytes(name, b"Throw");
-    }
-    if name.len() == 7 {
-        return same_bytes(name, b"JmpLong");
-    }
-    false
 }
 
 // Whether the opcode whose name starts at `start` of a sheet's text and is `size` long is one. A length of 0 is a gap, "<invalid>".

@@ -5,6 +5,8 @@ ghost use Rattle.list_labels.specs.Notes.{notes_of};
 
 // How many near offsets are flagged, and how many far ones were met: those past the flags that are from `low` on and below
 // `high`.
+// The flags and the stored offsets stay beside it: a struct that held them would need a clause in each function that they stay the
+// same references, which is no plainer.
 #[derive(Clone, Copy)]
 pub struct Counts {
     pub near: usize,
@@ -29,13 +31,11 @@ impl Counts {
             }
             return counts;
         }
-        if self.low <= at {
-            if at < self.high {
-                if self.far < stored.len() {
-                    stored[self.far] = x;
-                }
-                counts.far += 1;
+        if self.low <= at && at < self.high {
+            if self.far < stored.len() {
+                stored[self.far] = x;
             }
+            counts.far += 1;
         }
         counts
     }

@@ -32,11 +32,7 @@ const PAST_LIMIT: usize = 1048577;
 fn capped(k: usize) -> usize
     ensures { result ≡ min k (listing_limit + 1) }
 {
-    if limits::LISTING_LIMIT < k {
-        PAST_LIMIT
-    } else {
-        k
-    }
+    k.min(PAST_LIMIT)
 }
 
 // Lists all functions by index, up to one that is refused. Label entries are used for one function at a time.

@@ -17,8 +17,9 @@ use crate::edition::{Edition, Opened};
 use crate::ids::{translate_all, translate_in};
 use crate::instructions::carry_instructions;
 use crate::marks::Marks;
-use crate::opcodes::{Opcodes, rows_between};
+use crate::opcodes::{EMPTY, Opcodes, rows_between};
 use crate::places::mark_places;
+use crate::plans::plan_table;
 use answers::failure::Answer;
 use operation::ending::{measure, settle};
 use sheet::tables::Tables;
@@ -39,7 +40,14 @@ fn carry_marked(
     requires { Ready opcodes.types.now opcodes.types2.now opcodes.rows.now opcodes.last s.now marks.places.now marks.ids.now }
     ensures { (g : Ready opcodes.entry.types.now opcodes.entry.types2.now opcodes.entry.rows.now opcodes.entry.last s.now marks.entry.places.now marks.entry.ids.now) → n ≡ length g.records → Ended (carry_under g.«from» g.into opcodes.entry.last s.now) out.old (lent ∷ []) (left_by result out.new) (answer_report result) }
 {
-    let plans = crate::plans::plan_table(opcodes.types, opcodes.types2, opcodes.rows, opcodes.last);
+    let mut plans = [[None; 8]; 256];
+    plan_table(
+        opcodes.types,
+        opcodes.types2,
+        opcodes.rows,
+        opcodes.last,
+        &mut plans,
+    );
     let k = carry_instructions(&plans, opcodes.rows, s, marks, out)?;
     measure(k, limits::BODY_LIMIT, n, lent, out)
 }
@@ -129,7 +137,8 @@ fn carry_opened(
     requires by_index { ((op : ℕ) → ZerosBehind (get_or «from».tables.types.now op [])) × ((op : ℕ) → ZerosBehind (get_or into.tables.types.now op [])) }
     ensures { Ended (carry_under (context_from «from».entry.tables.text.now «from».entry.tables.types.now «from».entry.tables.ops.now «from».entry.strings.bytes.now «from».entry.strings.ends.now) (context_from into.entry.tables.text.now into.entry.tables.types.now into.entry.tables.ops.now into.entry.strings.bytes.now into.entry.strings.ends.now) last s.now) out.old (lent ∷ []) (left_by result out.new) (answer_report result) }
 {
-    let rows = rows_between(from.tables, last, into.tables);
+    let mut rows = [EMPTY; 256];
+    rows_between(from.tables, last, into.tables, &mut rows);
     let opcodes = Opcodes {
         types: from.tables.types,
         types2: into.tables.types,
@@ -158,7 +167,8 @@ pub fn carry_within(
     ensures texts_indexed { TextsIndexed into.entry.strings.bytes.now into.entry.strings.ends.now index.new }
 {
     translate_in(from.strings, into.strings, index, ids);
-    let rows = rows_between(from.tables, last, into.tables);
+    let mut rows = [EMPTY; 256];
+    rows_between(from.tables, last, into.tables, &mut rows);
     let opcodes = Opcodes {
         types: from.tables.types,
         types2: into.tables.types,

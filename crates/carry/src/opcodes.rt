@@ -32,7 +32,7 @@ pub struct OpcodeRow {
 }
 
 // That of an opcode past the largest, which no body has.
-const EMPTY: OpcodeRow = OpcodeRow {
+pub(crate) const EMPTY: OpcodeRow = OpcodeRow {
     state: State::Missing,
     opcode: 0,
     length: 0,
@@ -107,27 +107,31 @@ fn opcode_row(
     }
 }
 
-// The rows of all opcodes up to the largest.
+// Sets the rows of all opcodes up to the largest. The table is lent: handed out, it would be cleared and copied a second time.
 fn opcode_rows(
     from: Tables<'_>,
     last: usize,
     types2: &[[u8; 8]; 256],
     into: Names<'_>,
-) -> [OpcodeRow; 256]
-    ensures opcode_rows { (bytes₁ ends₁ bytes₂ ends₂ : List ℕ) → OpcodeRows (context_from «from».entry.text.now «from».entry.types.now «from».entry.ops.now bytes₁ ends₁) (context_from into.entry.text.now types2.now into.entry.ops.now bytes₂ ends₂) last result }
-    ensures new_opcodes { NewOpcodes last result × NewLengths last result }
+    rows: &mut [OpcodeRow; 256],
+)
+    ensures opcode_rows { (bytes₁ ends₁ bytes₂ ends₂ : List ℕ) → OpcodeRows (context_from «from».entry.text.now «from».entry.types.now «from».entry.ops.now bytes₁ ends₁) (context_from into.entry.text.now types2.now into.entry.ops.now bytes₂ ends₂) last rows.new }
+    ensures new_opcodes { NewOpcodes last rows.new × NewLengths last rows.new }
 {
-    let mut rows = [EMPTY; 256];
     for op in 0..=last.min(255) {
         rows[op] = opcode_row(from.text, from.ops[op], from.types[op], types2, into);
     }
-    rows
 }
 
 // The same, with an index of the second sheet's names.
-pub(crate) fn rows_between(from: Tables<'_>, last: usize, into: Tables<'_>) -> [OpcodeRow; 256]
-    ensures opcode_rows { (bytes₁ ends₁ bytes₂ ends₂ : List ℕ) → OpcodeRows (context_from «from».entry.text.now «from».entry.types.now «from».entry.ops.now bytes₁ ends₁) (context_from into.entry.text.now into.entry.types.now into.entry.ops.now bytes₂ ends₂) last result }
-    ensures new_opcodes { NewOpcodes last result × NewLengths last result }
+pub(crate) fn rows_between(
+    from: Tables<'_>,
+    last: usize,
+    into: Tables<'_>,
+    rows: &mut [OpcodeRow; 256],
+)
+    ensures opcode_rows { (bytes₁ ends₁ bytes₂ ends₂ : List ℕ) → OpcodeRows (context_from «from».entry.text.now «from».entry.types.now «from».entry.ops.now bytes₁ ends₁) (context_from into.entry.text.now into.entry.types.now into.entry.ops.now bytes₂ ends₂) last rows.new }
+    ensures new_opcodes { NewOpcodes last rows.new × NewLengths last rows.new }
 {
     let mut index = zeroed::<u32, NAME_INDEX>(0);
     index_names(into.text, into.ops, &mut index);
@@ -136,5 +140,5 @@ pub(crate) fn rows_between(from: Tables<'_>, last: usize, into: Tables<'_>) -> [
         ops: into.ops,
         index: &index,
     };
-    opcode_rows(from, last, into.types, names)
+    opcode_rows(from, last, into.types, names, rows)
 }

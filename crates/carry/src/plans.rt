@@ -7,8 +7,9 @@ ghost use Rattle.carry.specs.Plans.{action_of, keeps_type, keeps_all, copied, pl
 use crate::opcodes::OpcodeRow;
 use sheet::family::Family;
 
-// What is to be done with an operand.
+// What is to be done with an operand. In a byte, so that the table of all plans is small, which is cleared for each body.
 #[derive(Clone, Copy)]
+#[repr(u8)]
 pub enum Action {
     Keeps, // its bytes stay
     Number, // a register or number of another width, which has to fit
@@ -17,7 +18,7 @@ pub enum Action {
     OtherFamily, // the second sheet has another family there, which refuses it
 }
 
-// What is to be done with an operand, and its bytes under both sheets. The widths are bytes, so that the table of all plans is small.
+// What is to be done with an operand, and how many bytes it has under both sheets.
 #[derive(Clone, Copy)]
 pub struct Plan {
     pub action: Action,
@@ -95,19 +96,18 @@ fn plan_row(row: [u8; 8], new: [u8; 8]) -> [Option<Plan>; 8]
     plans
 }
 
-// Those of all opcodes up to the largest.
+// Sets those of all opcodes up to the largest. The table is lent: handed out, it would be cleared and copied a second time.
 pub(crate) fn plan_table(
     types: &[[u8; 8]; 256],
     types2: &[[u8; 8]; 256],
     rows: &[OpcodeRow; 256],
     last: usize,
-) -> [[Option<Plan>; 8]; 256]
+    plans: &mut [[Option<Plan>; 8]; 256],
+)
     requires { NewOpcodes last rows.now }
-    ensures { Plans types.now types2.now rows.now last result }
+    ensures { Plans types.now types2.now rows.now last plans.new }
 {
-    let mut plans = [[None; 8]; 256];
     for op in 0..=last.min(255) {
         plans[op] = plan_row(types[op], types2[rows[op].opcode]);
     }
-    plans
 }

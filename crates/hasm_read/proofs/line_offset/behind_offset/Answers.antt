@@ -22,10 +22,10 @@ returns-then-not-is_letter_at c =
 
 pub returns-then-is_some : goal.returns-then-is_some
 returns-then-is_some c =
-    let m = name_told _ _ false c.find.ensures (sym c.is_some.ensures ∙ c.if-is_some.true) in
+    let m = name_told _ _ true c.find.ensures (sym c.is_some.ensures ∙ c.if-is_some.true) in
     (λ types bytes ends. a_name _ c.args.s.now _ _ c.prefix_length-m.ensures.0 c.hex_end-k.ensures.0 _ c.white_end-a.ensures.0 (sym m), omega arith)
 
 pub returns-else-is_some : goal.returns-else-is_some
 returns-else-is_some c =
-    let m = name_told _ _ true c.find.ensures (sym c.is_some.ensures ∙ c.if-is_some.false) in
+    let m = name_told _ _ false c.find.ensures (sym c.is_some.ensures ∙ c.if-is_some.false) in
     (λ types bytes ends. an_offset _ c.args.s.now _ _ c.prefix_length-m.ensures.0 c.hex_end-k.ensures.0 _ c.white_end-a.ensures.0 c.if-k-m.false (sym c.is_white_at.ensures ∙ c.if-not-is_white_at.false) (sym m) (sym c.is_letter_at.ensures ∙ c.if-not-is_letter_at.false), c.white_end-a.ensures.1)

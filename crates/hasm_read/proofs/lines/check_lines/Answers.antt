@@ -1,4 +1,3 @@
-use borrow.Author.Tests.{not-true, not-false, ltb-true, ltb-false}
 use mathlib.Core.Path.{sym, ◌∙◌}
 use Rattle.hasm_read.proofs.CheckLaws.{going_start, going_end, going_long, going_bad, going_on}
 use Rattle.hasm_read.proofs.lines.check_lines.Goals as goal

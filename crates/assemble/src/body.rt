@@ -21,6 +21,7 @@ pub(crate) fn put_instructions(
 {
     let text = context.labels.source.text;
     let mut place = Place { offset: 0, k: 0 };
+    // A line's end says where the next one starts, so the places are followed and not counted.
     let mut at: usize = 0;
     let mut n: usize = 1;
     while at < text.len() {

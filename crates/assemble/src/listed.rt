@@ -106,6 +106,7 @@ pub(crate) fn put_labelled<'a>(
     requires { NamesGood source taken slots.now }
     ensures { BytesPut (bytes_of (context_of source.entry texts.entry.strings.bytes.now texts.entry.strings.ends.now) source.entry.text.now) out.old out.new result }
 {
+    // Not with_words, which chooses by the words alone: the two sizes have different numbers of heads.
     if taken.kept <= FEW_LABELS {
         return put_listed::<FEW_INDEX>(texts, source, slots, taken, FEW_HEADS, out);
     }

@@ -2,7 +2,7 @@
 use mathlib.Core.Path.{◌≡◌, ap, sym, ◌∙◌}
 use mathlib.Core.List.{List}
 use Prim.Native.Nat.{ℕ}
-use Rattle.std.specs.Prelude.{Result, Ok, Err}
+use Rattle.std.specs.Prelude.{Result, Ok, Err, is_err, true, false}
 use Rattle.lists.specs.Write.{Put}
 use Rattle.answers.specs.declared.refusal.Refusal.{Refusal}
 use Rattle.spec_listing.specs.Listing.{Listed}
@@ -30,3 +30,8 @@ module _ {lent : ℕ} {x : Listed} {out : List ℕ} {«from» : ℕ} {out' : Lis
   pub was_stopped : {f : Refusal} → Written lent x out «from» out' r → r ≡ Err f → x ≡ not_listed f
   was_stopped (whole t m q e l c w) h = cc (sym l ∙ h)
   was_stopped {f} (stopped g e q) h = let same : g ≡ f = cc (sym q ∙ h) in e ∙ ap not_listed same
+
+-- of a refusal the output may hold anything, and what is said of it needs the refusal alone
+pub any_output : {lent : ℕ} {x : Listed} {out : List ℕ} {«from» : ℕ} {out' : List ℕ} {r : Result Part Refusal} → Written lent x out «from» out' r → is_err r ≡ true → (out₂ : List ℕ) → Written lent x out «from» out₂ r
+any_output (whole t m q e l c w) h out₂ = let no : false ≡ true = rw l at h in cc no
+any_output (stopped f e q) h out₂ = stopped f e q

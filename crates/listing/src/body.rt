@@ -1,8 +1,9 @@
 // The listing of one body, before its length and the lent space are looked at.
-ghost use Rattle.std.specs.Prelude.{◌≡◌, ◌≤◌, false, length, replicate};
+ghost use Rattle.std.specs.Prelude.{◌≡◌, ◌≤◌, false, length, replicate, OnErr};
 ghost use Rattle.limits.specs.Limits.{body_limit};
 ghost use Rattle.spec_listing.specs.Listing.{list_decoded};
 ghost use Rattle.lists.specs.Choice.{pick};
+ghost use Rattle.answers.specs.Report.{zeros};
 ghost use Rattle.listing.specs.Parts.{options_of};
 ghost use Rattle.listing.specs.Listers.{context_by, decoded_by};
 ghost use Rattle.listing.specs.Bodies.{Written};
@@ -90,8 +91,8 @@ fn list_sized<const N: usize>(
 // The most bytes of a body that takes small flags.
 const SMALL_BODY: usize = 4096;
 
-// Lists a body at position `from`: 13, 14, 3. A small body takes small flags, which cost less to clear.
-pub fn list_body(
+// With flags of a size that suffices: a small body takes small flags, which cost less to clear.
+fn list_flags(
     lister: &Lister<'_>,
     s: &[u8],
     indent: &[u8],
@@ -105,4 +106,23 @@ pub fn list_body(
         return list_sized::<SMALL_BODY>(lister, s, indent, room, out);
     }
     list_sized::<{ limits::BODY_LIMIT }>(lister, s, indent, room, out)
+}
+
+// Lists a body at position `from`: 13, 14, 3. A refusal leaves the output all zero.
+pub fn list_body(
+    lister: &Lister<'_>,
+    s: &[u8],
+    indent: &[u8],
+    room: Room,
+    out: &mut [u8],
+) -> Result<Part, Refusal>
+    requires { (length s.now ≤ body_limit) × (length indent.now ≤ 2) }
+    ensures written { Written room.lent (list_decoded (options_of lister.now.options) (context_by lister.now) indent.now (decoded_by lister.now s.now)) out.old room.«from» out.new result }
+    ensures cleared { OnErr result (out.new ≡ zeros out.old) }
+{
+    let part = list_flags(lister, s, indent, room, out);
+    if part.is_err() {
+        clear(out, 0);
+    }
+    part
 }

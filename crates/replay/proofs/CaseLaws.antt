@@ -1,6 +1,6 @@
 -- Laws of a case's numbers, as the code looks at them. Assumes nothing.
 use mathlib.Core.Path.{◌≡◌, refl, ◌∙◌}
-use mathlib.Core.Bool.{Bool, true, false}
+use mathlib.Core.Bool.{false}
 use mathlib.Core.List.{List, ◌++◌}
 use Prim.Native.Nat.{ℕ, ◌-◌, ◌*◌, ◌<◌, ◌≤◌}
 use native.Mathlib.Omega.{arith}
@@ -9,8 +9,10 @@ use lib.Dec.{eqb}
 use lib.ListN.{length, take, drop}
 use lib.Seq.{drop_at}
 use Rattle.lists.proofs.Tests.{within_yes, within_low, within_high}
+use Rattle.std.proofs.Common.{Ok, Err}
 use Rattle.answers.specs.declared.report.Numbers.{Numbers}
 use Rattle.replay.specs.Cases.{Fronted, lent_size, same_answer, sheet_size}
+use Rattle.replay.specs.declared.Stop.TheVariants.{Broken}
 use Rattle.replay.specs.declared.case.Head.{Head}
 use Rattle.replay.proofs.WordLaws.{front_length}
 
@@ -40,21 +42,21 @@ module _ (operation room : ℕ) where
 
 -- whether an answer is the recorded one: by its first number that differs, else by its length
 module _ (head : Head) (a : Numbers) where
-  pub other_number : (head.number ≡ a.number → ⊥) → false ≡ same_answer head a
+  pub other_number : (head.answer.number ≡ a.number → ⊥) → false ≡ same_answer head a
   unfolding same_answer
   other_number n = rw (ne_eqb _ _ n)
 
-  module _ (e : head.number ≡ a.number) where
-    pub other_place : (head.place ≡ a.place → ⊥) → false ≡ same_answer head a
+  module _ (e : head.answer.number ≡ a.number) where
+    pub other_place : (head.answer.place ≡ a.place → ⊥) → false ≡ same_answer head a
     unfolding same_answer
     other_place n = rw (eq-eqb _ _ e, ne_eqb _ _ n)
 
-    module _ (f : head.place ≡ a.place) where
-      pub other_operand : (head.operand ≡ a.operand → ⊥) → false ≡ same_answer head a
+    module _ (f : head.answer.place ≡ a.place) where
+      pub other_operand : (head.answer.operand ≡ a.operand → ⊥) → false ≡ same_answer head a
       unfolding same_answer
       other_operand n = rw (eq-eqb _ _ e, eq-eqb _ _ f, ne_eqb _ _ n)
 
-      pub by_length : head.operand ≡ a.operand → eqb head.length a.length ≡ same_answer head a
+      pub by_length : head.answer.operand ≡ a.operand → eqb head.answer.length a.length ≡ same_answer head a
       unfolding same_answer
       by_length g = rw (eq-eqb _ _ e, eq-eqb _ _ f, eq-eqb _ _ g)
 
@@ -66,17 +68,20 @@ module _ (head : Head) (used : ℕ) where
   pub sheet_own : (head.sheet ≡ 0 → ⊥) → head.sheet ≡ sheet_size head used
   sheet_own n = rw (ne_eqb _ _ n)
 
--- bytes were to be read to the front of a space: too many for it, and those that replace its front
+-- bytes were to be read to the front of a space: too many for it, too few of them there, or those that replace its front
 module _ (s : List ℕ) (n : ℕ) where
-  pub front_short : Fronted s n s false
-  front_short = record { fits = λ e. absurd (let z : ◌≡◌ {A = ℕ} 0 1 = cc e in omega arith); kept = refl }
+  pub front_short : Fronted s n s (Err Broken)
+  front_short = record { fits = tt; fails = refl; kept = refl }
 
-  pub front_read : n ≤ length s → (x : List ℕ) → length x ≡ length (take (n - 0) s) → (r : Bool) → Fronted s n (x ++ drop (n - 0) s) r
-  front_read h x l r =
-      let m : n - 0 ≡ n = omega arith in
-      let k : length x ≡ n = l ∙ front_length s n h in
-      record { fits = λ e. h; kept = drop_at x (drop (n - 0) s) n k ∙ rw m }
+  module _ (h : n ≤ length s) (x : List ℕ) (l : length x ≡ length (take (n - 0) s)) where
+    replaced : drop n (x ++ drop (n - 0) s) ≡ drop n s
+    replaced =
+        let m : n - 0 ≡ n = omega arith in
+        let k : length x ≡ n = l ∙ front_length s n h in
+        drop_at x (drop (n - 0) s) n k ∙ rw m
 
--- no is not yes
-pub no_parts : {P : Type 0} → false ≡ true → P
-no_parts e = absurd (let z : ◌≡◌ {A = ℕ} 0 1 = cc e in omega arith)
+    pub front_cut : Fronted s n (x ++ drop (n - 0) s) (Err Broken)
+    front_cut = record { fits = tt; fails = refl; kept = replaced }
+
+    pub front_read : Fronted s n (x ++ drop (n - 0) s) (Ok tt)
+    front_read = record { fits = h; fails = tt; kept = replaced }

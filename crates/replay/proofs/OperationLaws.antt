@@ -25,27 +25,25 @@ use Rattle.spec_body.specs.Operation.{decode, encode}
 use Rattle.spec_hasm.specs.Operation.{assemble}
 use Rattle.spec_job.specs.Printed as job
 use Rattle.job.specs.Run.{run_report}
-use Rattle.job.specs.declared.run.RunAnswer.{RunAnswer}
-use Rattle.job.specs.declared.run.RunAnswer.TheVariants.{Done, Short}
 use Rattle.replay.specs.Words.{numbers_over, bytes_of}
 use Rattle.replay.specs.Performs.{done, reported, broken, printed, ended, decoded_into, decoded, encoded, assembled_from, assembled, ran, part_performed, performed}
-use Rattle.replay.specs.declared.parts.Performed.{Performed}
-use Rattle.replay.specs.declared.parts.Performed.TheVariants.{Answered}
+use Rattle.std.proofs.Common.{Ok, Option, Some, None}
+use Rattle.answers.specs.Numbers.{numbers_of}
 use Rattle.replay.proofs.WordLaws.{over_all, over_front}
 use Rattle.replay.proofs.PerformLaws.{was_printed}
 
 -- an operation of the desk ended
-pub was_ended : (x : Outcome) (out entries : List ℕ) {after : List ℕ} {a : Numbers} → Ended x out entries after (report_in a) → done (Answered a) after ≡ ended x entries out
+pub was_ended : (x : Outcome) (out entries : List ℕ) {after : List ℕ} {a : Numbers} → Ended x out entries after (report_in a) → done (Ok a) after ≡ ended x entries out
 unfolding ended
 was_ended x out entries {after} {a} e =
-    let p : Answered a ≡ reported (report x (outcome.lent (out ∷ []) entries)) = ap reported e.answer_is in
+    let p : a ≡ numbers_of (report x (outcome.lent (out ∷ []) entries)) = ap numbers_of e.answer_is in
     let q : after ≡ get_or (outputs_after x (out ∷ []) entries) 0 [] = ap (λ (l : List (List ℕ)). get_or l 0 []) e.output_is in
     rw (p, q)
 
 -- decoding into words that are written back, and into those of the lent bytes
 module _ (sheet body lent : List ℕ) where
   pub words_decoded : (words : List ℕ) {after lent' : List ℕ} {a : Numbers} → Ended (decode sheet body) words [] after (report_in a) → lent' ≡ put lent 0 (bytes_of 8 after)
-      → done (Answered a) lent' ≡ decoded_into sheet body lent words
+      → done (Ok a) lent' ≡ decoded_into sheet body lent words
   unfolding decoded_into
   words_decoded words e p = rw (sym (was_ended _ words [] e), p)
 
@@ -96,15 +94,15 @@ past_output out t need n h = by_case (ltb (length out) (length t)) refl
     by_case false e = true_not_false _ (rw (n, e) at h) refl
 
 -- a job's text, where it has room
-module _ (s text after : List ℕ) (a : RunAnswer) (e : Ended (job.run s) text [] after (run_report a)) (room : length text ≡ 131078) where
+module _ (s text after : List ℕ) (a : Option ℕ) (e : Ended (job.run s) text [] after (run_report a)) (room : length text ≡ 131078) where
   how : HowEnded (job.run s) text [] after (run_report a)
   how = how_ended (job.run s) text [] after (run_report a) (whole_of_lem (job.printed s) [] refl) e
 
-  pub ran_done : {k n : ℕ} {out out' : List ℕ} {r : Performed} → a ≡ Done k → Put out 0 (part after 0 k) out' n → r ≡ reported (success n) → done r out' ≡ ran s out
+  pub ran_done : {k n : ℕ} {out out' : List ℕ} {r : Numbers} → a ≡ Some k → Put out 0 (part after 0 k) out' n → r ≡ numbers_of (success n) → done (Ok r) out' ≡ ran s out
   unfolding ran run_report
   ran_done {k} {n} {out} {out'} {r} q p f = by_case how
     where
-      by_case : HowEnded (job.run s) text [] after (run_report a) → done r out' ≡ ran s out
+      by_case : HowEnded (job.run s) text [] after (run_report a) → done (Ok r) out' ≡ ran s out
       by_case (was_refused x y z) = not_refused (sym y)
       by_case (was_short t need y h z) = absurd (let w : success k ≡ shortage = ap run_report (sym q) ∙ z in let v : 0 ≡ 19 = ap (λ (x : Report). x.number) w in omega (arith, v))
       by_case (was_whole t need y h z w l) =
@@ -113,10 +111,10 @@ module _ (s text after : List ℕ) (a : RunAnswer) (e : Ended (job.run s) text [
           let m : k ≡ length t = ap (λ (x : Report). x.length) u in
           let front : part after 0 k ≡ job.printed s = rw (w, m, take_at t (drop (length t) text) (length t) refl) (sym same) in
           let small : length (job.printed s) ≤ 131078 = rw same (omega arith) in
-          let g : done r out' ≡ printed (part after 0 k) out = was_printed p f in
+          let g : done (Ok r) out' ≡ printed (part after 0 k) out = was_printed p f in
           rw (le-ltb 131078 (length (job.printed s)) small) (g ∙ ap (λ (x : List ℕ). printed x out) front)
 
-  pub ran_short : a ≡ Short → (out : List ℕ) → broken out ≡ ran s out
+  pub ran_short : a ≡ None → (out : List ℕ) → broken out ≡ ran s out
   unfolding ran run_report
   ran_short q out = by_case how
     where

@@ -16,26 +16,28 @@ use Rattle.spec_numbers.specs.Double.{read_double, print_double}
 use Rattle.numbers.specs.Answers.{number_of}
 use Rattle.spec_strings.specs.Escape.{quoted, unescape}
 use Rattle.answers.specs.Report.{refusal, success, zeros}
-use Rattle.desk_parts.specs.Parts.{part_of_number}
+use Rattle.desk_parts.specs.Parts.{part_of}
 use Rattle.desk_parts.specs.declared.PartNumber.{PartNumber}
 use Rattle.replay.specs.Performs.{done, reported, broken, printed, valued, number_printed, input_printed, part_performed}
-use Rattle.replay.specs.declared.parts.Performed.{Performed}
+use Rattle.std.proofs.Common.{Ok}
+use Rattle.answers.specs.Numbers.{numbers_of}
+use Rattle.answers.specs.declared.report.Numbers.{Numbers}
 
 -- a text was printed
-pub was_printed : {t lent after : List ℕ} {k : ℕ} {r : Performed} → Put lent 0 t after k → r ≡ reported (success k) → done r after ≡ printed t lent
+pub was_printed : {t lent after : List ℕ} {k : ℕ} {r : Numbers} → Put lent 0 t after k → r ≡ numbers_of (success k) → done (Ok r) after ≡ printed t lent
 unfolding printed
 was_printed {t} {lent} {after} {k} {r} p e =
     let n : k ≡ min (length t) top = omega (arith, p.next) in
-    let f : r ≡ reported (success (min (length t) top)) = e ∙ ap (λ (n : ℕ). reported (success n)) n in
+    let f : r ≡ numbers_of (success (min (length t) top)) = e ∙ ap (λ (n : ℕ). numbers_of (success n)) n in
     rw (f, p.bytes)
 
 -- a value was read, or there is none
-module _ (n : PartNumber) (lent : List ℕ) {after : List ℕ} {r : Performed} where
-  pub value_there : n.found ≡ 1 → r ≡ reported (success 0) → after ≡ put lent 0 (le_bytes 8 n.value) → done r after ≡ valued n lent
+module _ (n : PartNumber) (lent : List ℕ) {after : List ℕ} {r : Numbers} where
+  pub value_there : n.found ≡ 1 → r ≡ numbers_of (success 0) → after ≡ put lent 0 (le_bytes 8 n.value) → done (Ok r) after ≡ valued n lent
   unfolding valued
   value_there f e p = rw (eq-eqb _ _ f, e, p)
 
-  pub value_none : (n.found ≡ 1 → ⊥) → r ≡ reported (refusal 1 0 0) → after ≡ zeros lent → done r after ≡ valued n lent
+  pub value_none : (n.found ≡ 1 → ⊥) → r ≡ numbers_of (refusal 1 0 0) → after ≡ zeros lent → done (Ok r) after ≡ valued n lent
   unfolding valued
   value_none f e p = rw (ne_eqb _ _ f, e, p)
 
@@ -78,19 +80,19 @@ module _ (operation : ℕ) (input lent : List ℕ) where
   not_eight n = rw (ne_eqb _ _ n)
 
   -- an operation by its number
-  pub reads_u32 : operation ≡ 3 → valued (part_of_number (number_of (parse_u32 input))) lent ≡ part_performed operation input lent
+  pub reads_u32 : operation ≡ 3 → valued (part_of (number_of (parse_u32 input))) lent ≡ part_performed operation input lent
   unfolding part_performed
   reads_u32 e = rw e
 
-  pub reads_hex : operation ≡ 4 → valued (part_of_number (number_of (parse_hex input))) lent ≡ part_performed operation input lent
+  pub reads_hex : operation ≡ 4 → valued (part_of (number_of (parse_hex input))) lent ≡ part_performed operation input lent
   unfolding part_performed
   reads_hex e = rw e
 
-  pub reads_i32 : operation ≡ 5 → valued (part_of_number (number_of (parse_i32 input))) lent ≡ part_performed operation input lent
+  pub reads_i32 : operation ≡ 5 → valued (part_of (number_of (parse_i32 input))) lent ≡ part_performed operation input lent
   unfolding part_performed
   reads_i32 e = rw e
 
-  pub reads_double : operation ≡ 6 → valued (part_of_number (number_of (read_double input))) lent ≡ part_performed operation input lent
+  pub reads_double : operation ≡ 6 → valued (part_of (number_of (read_double input))) lent ≡ part_performed operation input lent
   unfolding part_performed
   reads_double e = rw e
 

@@ -1,12 +1,12 @@
 -- The numbers in front of a case. Assumes nothing.
-use Rattle.std.specs.Prelude.{◌≡◌, Bool, true, List, ℕ, ◌*◌, ◌≤◌, eqb, ltb, length, drop}
+use Rattle.std.specs.Prelude.{◌≡◌, Bool, List, ℕ, ◌*◌, ◌≤◌, eqb, ltb, length, drop, Result, Ok, Err, OnOk, IfErr}
 use Rattle.lists.specs.Choice.{pick, both, within}
 use Rattle.lists.specs.Scan.{part}
 use Rattle.spec_numbers.specs.LittleEndian.{le}
 use Rattle.answers.specs.declared.report.Numbers.{Numbers}
 use Rattle.replay.specs.declared.case.Head.{Head}
-use Rattle.replay.specs.declared.case.HeadRead.{HeadRead}
-use Rattle.replay.specs.declared.case.HeadRead.TheVariants.{Is, End, Broken}
+use Rattle.replay.specs.declared.Stop.{Stop}
+use Rattle.replay.specs.declared.Stop.TheVariants.{End, Broken}
 
 -- the number with index i of a list of 4-byte numbers
 abbrev pub number_at : List ℕ → ℕ → ℕ
@@ -20,27 +20,27 @@ head_of b =
       sheet = number_at b 1;
       input = number_at b 2;
       room = number_at b 3;
-      number = number_at b 4;
-      place = number_at b 5;
-      operand = number_at b 6;
-      length = number_at b 7;
+      answer = record { number = number_at b 4; place = number_at b 5; operand = number_at b 6; length = number_at b 7 };
       expected = number_at b 8;
     }
 
 -- what was read from standard input, of which no contract says the bytes: the numbers of 36 bytes, nothing, or fewer bytes
-pub data Reads (r : HeadRead) : Type 0 where
-  numbers : (b : List ℕ) → length b ≡ 36 → r ≡ Is (head_of b) → Reads r
-  nothing : r ≡ End → Reads r
-  cut : r ≡ Broken → Reads r
+pub data Reads (r : Result Head Stop) : Type 0 where
+  numbers : (b : List ℕ) → length b ≡ 36 → r ≡ Ok (head_of b) → Reads r
+  nothing : r ≡ Err End → Reads r
+  cut : r ≡ Err Broken → Reads r
 
--- n bytes were to be read to the front of s, which is s' afterwards: yes only where they fit, and what lies behind them stays
-pub record Fronted (s : List ℕ) (n : ℕ) (s' : List ℕ) (r : Bool) : Type 0 where
-  pub fits : r ≡ true → n ≤ length s
+-- n bytes were to be read to the front of s, which is s' afterwards: they were only where they fit, else it is no case; what lies
+-- behind them stays
+pub record Fronted (s : List ℕ) (n : ℕ) (s' : List ℕ) (r : Result Unit Stop) : Type 0 where
+  pub fits : OnOk r (n ≤ length s)
+  pub fails : IfErr r (λ x. x ≡ Broken)
   pub kept : drop n s' ≡ drop n s
 
--- the parts of a case were to be read, each to the front of its space: yes only where all of them fit
-pub record PartsRead (head : Head) (sheet input expected sheet' input' expected' : List ℕ) (r : Bool) : Type 0 where
-  pub fit : r ≡ true → (head.sheet ≤ length sheet) × (head.input ≤ length input) × (head.expected ≤ length expected)
+-- the parts of a case were to be read, each to the front of its space: they were only where all of them fit, else it is no case
+pub record PartsRead (head : Head) (sheet input expected sheet' input' expected' : List ℕ) (r : Result Unit Stop) : Type 0 where
+  pub fit : OnOk r ((head.sheet ≤ length sheet) × (head.input ≤ length input) × (head.expected ≤ length expected))
+  pub fails : IfErr r (λ x. x ≡ Broken)
   pub sheet_kept : drop head.sheet sheet' ≡ drop head.sheet sheet
   pub input_kept : drop head.input input' ≡ drop head.input input
   pub expected_kept : drop head.expected expected' ≡ drop head.expected expected
@@ -57,4 +57,5 @@ lent_size operation room = pick (ltb 65536 room) room (pick (eqb operation 1) (8
 -- an answer is the recorded one: its four numbers are
 unfoldable pub same_answer : Head → Numbers → Bool
 same_answer head a =
-    both (eqb head.number a.number) (both (eqb head.place a.place) (both (eqb head.operand a.operand) (eqb head.length a.length)))
+    let b = head.answer in
+    both (eqb b.number a.number) (both (eqb b.place a.place) (both (eqb b.operand a.operand) (eqb b.length a.length)))

@@ -1,6 +1,6 @@
 -- What each operation of a case answers, and the lent bytes afterwards; src/main.rt describes the operations by their numbers.
 -- Assumes nothing.
-use Rattle.std.specs.Prelude.{false, List, [], ◌∷◌, ℕ, ◌+◌, ◌*◌, ◌/◌, ◌%◌, min, eqb, ltb, length, drop, get_or}
+use Rattle.std.specs.Prelude.{Result, Ok, Err, false, List, [], ◌∷◌, ℕ, ◌+◌, ◌*◌, ◌/◌, ◌%◌, min, eqb, ltb, length, drop, get_or}
 use Rattle.lists.specs.Choice.{pick, either}
 use Rattle.lists.specs.Scan.{part}
 use Rattle.lists.specs.Write.{put, top}
@@ -18,27 +18,28 @@ use Rattle.answers.specs.Numbers.{numbers_of}
 use Rattle.spec_body.specs.Operation.{decode, encode}
 use Rattle.spec_hasm.specs.Operation.{assemble}
 use Rattle.spec_job.specs.Printed as job
-use Rattle.desk_parts.specs.Parts.{part_of_number}
+use Rattle.desk_parts.specs.Parts.{part_of}
 use Rattle.desk_parts.specs.declared.PartNumber.{PartNumber}
 use Rattle.replay.specs.Words.{numbers_in, bytes_of}
-use Rattle.replay.specs.declared.parts.Performed.{Performed}
-use Rattle.replay.specs.declared.parts.Performed.TheVariants.{Answered, Broken}
+use Rattle.answers.specs.declared.report.Numbers.{Numbers}
+use Rattle.replay.specs.declared.Stop.{Stop}
+use Rattle.replay.specs.declared.Stop.TheVariants.{Broken}
 
--- what an operation answered, and the lent bytes afterwards
+-- what an operation answered, or why the replay stops at its case; and the lent bytes afterwards
 pub record Done : Type 0 where
-  pub answer : Performed
+  pub answer : Result Numbers Stop
   pub left : List ℕ
 
-abbrev pub done : Performed → List ℕ → Done
+abbrev pub done : Result Numbers Stop → List ℕ → Done
 done r after = record { answer = r; left = after }
 
 -- the four numbers of a report
-abbrev pub reported : Report → Performed
-reported r = Answered (numbers_of r)
+abbrev pub reported : Report → Result Numbers Stop
+reported r = Ok (numbers_of r)
 
 -- no operation, or an input that is not of its form, or too large: the lent bytes stay
 abbrev pub broken : List ℕ → Done
-broken lent = done Broken lent
+broken lent = done (Err Broken) lent
 
 -- a text was printed, as much of it as fits; "the whole text's length" is the answer
 unfoldable pub printed : List ℕ → List ℕ → Done
@@ -104,10 +105,10 @@ input_printed operation input lent = pick (eqb (length input) 8) (number_printed
 -- 3 to 12
 unfoldable pub part_performed : ℕ → List ℕ → List ℕ → Done
 part_performed operation input lent =
-    pick (eqb operation 3) (valued (part_of_number (number_of (parse_u32 input))) lent)
-    (pick (eqb operation 4) (valued (part_of_number (number_of (parse_hex input))) lent)
-    (pick (eqb operation 5) (valued (part_of_number (number_of (parse_i32 input))) lent)
-    (pick (eqb operation 6) (valued (part_of_number (number_of (read_double input))) lent)
+    pick (eqb operation 3) (valued (part_of (number_of (parse_u32 input))) lent)
+    (pick (eqb operation 4) (valued (part_of (number_of (parse_hex input))) lent)
+    (pick (eqb operation 5) (valued (part_of (number_of (parse_i32 input))) lent)
+    (pick (eqb operation 6) (valued (part_of (number_of (read_double input))) lent)
     (pick (eqb operation 11) (printed (quoted input) lent)
     (pick (eqb operation 12) (printed (unescape false input) lent) (input_printed operation input lent))))))
 

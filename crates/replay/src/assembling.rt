@@ -7,7 +7,8 @@ ghost use Rattle.replay.specs.Words.{numbers_over};
 ghost use Rattle.replay.specs.Lent.{are_clear};
 ghost use Rattle.replay.specs.Performs.{done, ended, assembled_from, assembled};
 
-use crate::parts::Performed;
+use crate::Stop;
+use answers::report::Numbers;
 use numbers::little_endian::read_le;
 use slices::part::part_of;
 
@@ -18,15 +19,9 @@ const WORD: u32 = 0xA5A5A5A5;
 fn ends_of(s: &[u8], ends: &mut [u32])
     ensures { ends.new ≡ numbers_over 4 s.now ends.old }
 {
-    let mut at: usize = 0;
-    let mut i: usize = 0;
-    while i < ends.len() {
-        if s.len() - at < 4 {
-            return;
-        }
-        ends[i] = (read_le(s, at, 4) % 0x1_0000_0000) as u32;
-        at += 4;
-        i += 1;
+    let n = ends.len().min(s.len() / 4);
+    for i in 0..n {
+        ends[i] = (read_le(s, 4 * i, 4) % 0x1_0000_0000) as u32;
     }
 }
 
@@ -34,15 +29,9 @@ fn ends_of(s: &[u8], ends: &mut [u32])
 fn are_clear(labels: &[[u32; 3]]) -> bool
     ensures { result ≡ are_clear labels.now }
 {
-    let mut i: usize = 0;
-    while i < labels.len() {
-        let slot = labels[i];
-        if slot[0] != 0 || slot[1] != 0 || slot[2] != 0 {
-            return false;
-        }
-        i += 1;
-    }
-    true
+    labels
+        .iter()
+        .all(|slot| slot[0] == 0 && slot[1] == 0 && slot[2] == 0)
 }
 
 // Assembles a text, and looks at the label entries afterwards.
@@ -53,14 +42,14 @@ fn assemble_text(
     text: &[u8],
     out: &mut [u8],
     labels: &mut [[u32; 3]],
-) -> Performed
+) -> Result<Numbers, Stop>
     ensures { done result out.new ≡ ended (hasm.assemble sheet.now bytes.now ends.now text.now) (length labels.old ∷ []) out.old }
 {
     let a = desk_host::desk_assemble(sheet, bytes, ends, text, out, labels);
     if are_clear(labels) {
-        return Performed::Answered(a);
+        return Ok(a);
     }
-    Performed::NotClear
+    Err(Stop::Differs)
 }
 
 // Takes the parts behind the input's three numbers: the ends, up to `from`, the `size` bytes of the strings, the text.
@@ -72,13 +61,13 @@ fn assemble_parts(
     ends: &mut [u32],
     out: &mut [u8],
     labels: &mut [[u32; 3]],
-) -> Performed
+) -> Result<Numbers, Stop>
     requires { («from» ≡ 4 * length ends.old) × («from» ≤ 256) × (size ≤ 4294967295) }
     ensures { done result out.new ≡ assembled_from sheet.now rest.now (length ends.old) size (length labels.old) out.old }
 {
     let behind = from + size;
     if rest.len() < behind {
-        return Performed::Broken;
+        return Err(Stop::Broken);
     }
     ends_of(rest, ends);
     assemble_text(
@@ -106,24 +95,24 @@ fn assemble_within(
     ends: &mut [u32],
     out: &mut [u8],
     labels: &mut [[u32; 3]],
-) -> Performed
+) -> Result<Numbers, Stop>
     requires { (length ends.old ≡ 64) × (length labels.old ≡ 64) }
     ensures { done result out.new ≡ assembled sheet.now input.now out.old }
 {
     if input.len() < 12 {
-        return Performed::Broken;
+        return Err(Stop::Broken);
     }
     let strings = size_at(input, 0);
     let size = size_at(input, 4);
     let lent = size_at(input, 8);
     if 64 < strings {
-        return Performed::Broken;
+        return Err(Stop::Broken);
     }
     if ends.len() < strings {
-        return Performed::Broken;
+        return Err(Stop::Broken);
     }
     if labels.len() < lent {
-        return Performed::Broken;
+        return Err(Stop::Broken);
     }
     assemble_parts(
         sheet,
@@ -137,7 +126,7 @@ fn assemble_within(
 }
 
 // Assembles the text behind the string table.
-pub fn assemble(sheet: &[u8], input: &[u8], out: &mut [u8]) -> Performed
+pub fn assemble(sheet: &[u8], input: &[u8], out: &mut [u8]) -> Result<Numbers, Stop>
     ensures { done result out.new ≡ assembled sheet.now input.now out.old }
 {
     let mut ends = [0u32; 64];

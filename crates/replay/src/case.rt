@@ -2,6 +2,8 @@
 ghost use Rattle.std.specs.Prelude.{◌≡◌, ◌<◌, ◌≤◌, length, None, Err, IsOk, IsSome, MatchOption};
 ghost use Rattle.replay.specs.Cases.{number_at, head_of, Reads, Fronted, PartsRead};
 
+use crate::Stop;
+use answers::report::Numbers;
 use numbers::little_endian::read_le;
 use reading::read_full;
 use std::io;
@@ -52,25 +54,15 @@ impl Source {
     }
 }
 
-// The numbers in front of a case.
+// The numbers in front of a case, with the recorded answer among them.
 #[derive(Clone, Copy)]
 pub struct Head {
     pub operation: u64,
     pub sheet: usize,
     pub input: usize,
     pub room: usize,
-    pub number: u64,
-    pub place: u64,
-    pub operand: u64,
-    pub length: u64,
+    pub answer: Numbers,
     pub expected: usize,
-}
-
-#[derive(Clone, Copy)]
-pub enum HeadRead {
-    Is(Head),
-    End,
-    Broken,
 }
 
 fn number_at(b: &[u8; 36], i: usize) -> u64
@@ -96,37 +88,42 @@ fn head_of(b: &[u8; 36]) -> Head
         sheet: size_at(b, 1),
         input: size_at(b, 2),
         room: size_at(b, 3),
-        number: number_at(b, 4),
-        place: number_at(b, 5),
-        operand: number_at(b, 6),
-        length: number_at(b, 7),
+        answer: Numbers {
+            number: number_at(b, 4),
+            place: number_at(b, 5),
+            operand: number_at(b, 6),
+            length: number_at(b, 7),
+        },
         expected: size_at(b, 8),
     }
 }
 
-// The next case's numbers, or that there is no further case.
-pub fn read_head(source: &mut Source) -> HeadRead
+// The next case's numbers, or that there is no further case or less than its numbers.
+pub fn read_head(source: &mut Source) -> Result<Head, Stop>
     ensures { Reads result }
 {
     let mut b = [0u8; 36];
     let got = source.fill(&mut b);
     if got == 0 {
-        return HeadRead::End;
+        return Err(Stop::End);
     }
     if got != 36 {
-        return HeadRead::Broken;
+        return Err(Stop::Broken);
     }
-    HeadRead::Is(head_of(&b))
+    Ok(head_of(&b))
 }
 
-// Reads n bytes to the front of s, and answers whether they fit and were all there.
-fn read_front(source: &mut Source, s: &mut [u8], n: usize) -> bool
+// Reads n bytes to the front of s, where they fit and are all there.
+fn read_front(source: &mut Source, s: &mut [u8], n: usize) -> Result<(), Stop>
     ensures { Fronted s.old n s.new result }
 {
     if s.len() < n {
-        return false;
+        return Err(Stop::Broken);
     }
-    source.fill(&mut s[0..n]) == n
+    if source.fill(&mut s[0..n]) != n {
+        return Err(Stop::Broken);
+    }
+    Ok(())
 }
 
 // Reads the sheet, the input and the expected output, each to the front of its space.
@@ -136,15 +133,11 @@ pub fn read_parts(
     sheet: &mut [u8],
     input: &mut [u8],
     expected: &mut [u8],
-) -> bool
+) -> Result<(), Stop>
     ensures { PartsRead head sheet.old input.old expected.old sheet.new input.new expected.new result }
 {
-    if !read_front(source, sheet, head.sheet) {
-        return false;
-    }
-    if !read_front(source, input, head.input) {
-        return false;
-    }
+    read_front(source, sheet, head.sheet)?;
+    read_front(source, input, head.input)?;
     read_front(source, expected, head.expected)
 }
 

@@ -5,49 +5,27 @@ ghost use Rattle.replay.specs.Words.{numbers_over, bytes_of};
 ghost use Rattle.replay.specs.Lent.{all_are, left_as};
 
 use numbers::little_endian::{put_le, read_le};
-use slices::compare::same_bytes;
 
 // The byte that lent space holds before a call.
 pub const FILL: u8 = 0xA5;
-
-// Sets every byte to b.
-pub fn fill(s: &mut [u8], b: u8)
-    ensures { s.new ≡ replicate (length s.old) b }
-{
-    let mut i: usize = 0;
-    while i < s.len() {
-        s[i] = b;
-        i += 1;
-    }
-}
 
 // Whether every byte is b.
 fn all_are(s: &[u8], b: u8) -> bool
     ensures { result ≡ all_are b s.now }
 {
-    let mut i: usize = 0;
-    while i < s.len() {
-        if s[i] != b {
-            return false;
-        }
-        i += 1;
-    }
-    true
+    s.iter().all(|&x| x == b)
 }
 
 // Whether a call that answered `number` left the lent bytes as expected.
+#[tactic(auto, using(lists::proofs::Links::opens_starts), unfolding(crate::specs::Lent::left_as))]
 pub fn is_left(lent: &[u8], expected: &[u8], number: u64) -> bool
     ensures { result ≡ left_as lent.now expected.now number }
 {
-    let n = expected.len();
-    if lent.len() < n {
-        return false;
-    }
-    if !same_bytes(&lent[0..n], expected) {
+    if !lent.starts_with(expected) {
         return false;
     }
     if number == 0 {
-        return all_are(&lent[n..], FILL);
+        return all_are(&lent[expected.len()..], FILL);
     }
     all_are(lent, 0)
 }
@@ -56,15 +34,9 @@ pub fn is_left(lent: &[u8], expected: &[u8], number: u64) -> bool
 pub fn words_of(s: &[u8], words: &mut [u64])
     ensures { words.new ≡ numbers_over 8 s.now words.old }
 {
-    let mut at: usize = 0;
-    let mut i: usize = 0;
-    while i < words.len() {
-        if s.len() - at < 8 {
-            return;
-        }
-        words[i] = read_le(s, at, 8);
-        at += 8;
-        i += 1;
+    let n = words.len().min(s.len() / 8);
+    for i in 0..n {
+        words[i] = read_le(s, 8 * i, 8);
     }
 }
 
@@ -72,10 +44,8 @@ pub fn words_of(s: &[u8], words: &mut [u64])
 pub fn bytes_of(words: &[u64], out: &mut [u8])
     ensures { out.new ≡ put out.old 0 (bytes_of 8 words.now) }
 {
-    let mut at: usize = 0;
-    let mut i: usize = 0;
-    while i < words.len() {
-        at = put_le(out, at, 8, words[i]);
-        i += 1;
+    let mut at = 0;
+    for &word in words {
+        at = put_le(out, at, 8, word);
     }
 }

@@ -55,24 +55,17 @@ ghost use Rattle.std.specs.Prelude.{◌≡◌, length};
 ghost use Rattle.replay.specs.Cases.{sheet_size};
 ghost use Rattle.replay.specs.Turns.{compared_on, case_turn, Tried, Next, Replayed};
 
-use crate::case::{Head, HeadRead, Source};
-use crate::parts::Performed;
+use crate::case::{Head, Source};
 use slices::part::part_of;
+use slices::space::zeroed;
 use std::io;
 
-// Why the replay stops at a case.
+// Why the replay stops at a case: its answer or lent space is another than recorded, it is no case, or there is none.
 #[derive(Clone, Copy)]
-enum Stop {
+pub(crate) enum Stop {
     Differs,
     Broken,
     End,
-}
-
-// What comes of one case. Where it agrees, its sheet, which the next case may use, has this many bytes.
-#[derive(Clone, Copy)]
-enum Turn {
-    Agrees(usize),
-    Stops(Stop),
 }
 
 // What comes of all cases: the first `agreed` of them agree.
@@ -84,35 +77,42 @@ struct Outcome {
 
 const MOST_CASES: u64 = 1000000;
 
-// Runs a case whose parts have been read, and compares. `lent` has as many bytes as the case lends.
-fn compared(head: Head, sheet: &[u8], input: &[u8], expected: &[u8], lent: &mut [u8]) -> Turn
+// The most bytes of a sheet, and of any other part or the lent space.
+const MOST_SHEET: usize = 16384;
+
+const MOST_BYTES: usize = 65536;
+
+// Runs a case whose parts have been read, and compares. `lent` has as many bytes as the case lends. Where the case agrees, its sheet,
+// which the next case may use, has as many bytes as are answered.
+fn compared(
+    head: Head,
+    sheet: &[u8],
+    input: &[u8],
+    expected: &[u8],
+    lent: &mut [u8],
+) -> Result<usize, Stop>
     ensures { result ≡ compared_on (length lent.old) head sheet.now input.now expected.now }
 {
-    crate::lent::fill(lent, crate::lent::FILL);
-    match operations::perform(head.operation, sheet, input, lent) {
-        Performed::Answered(a) => {
-            if !crate::parts::same_answer(head, a) {
-                return Turn::Stops(Stop::Differs);
-            }
-            if !crate::lent::is_left(lent, expected, a.number) {
-                return Turn::Stops(Stop::Differs);
-            }
-            Turn::Agrees(sheet.len())
-        }
-        Performed::NotClear => Turn::Stops(Stop::Differs),
-        Performed::Broken => Turn::Stops(Stop::Broken),
+    lent.fill(crate::lent::FILL);
+    let a = operations::perform(head.operation, sheet, input, lent)?;
+    if !crate::parts::same_answer(head, a) {
+        return Err(Stop::Differs);
     }
+    if !crate::lent::is_left(lent, expected, a.number) {
+        return Err(Stop::Differs);
+    }
+    Ok(sheet.len())
 }
 
 // Lends as many bytes as the case says, and compares.
-fn lend(head: Head, sheet: &[u8], input: &[u8], expected: &[u8]) -> Turn
+fn lend(head: Head, sheet: &[u8], input: &[u8], expected: &[u8]) -> Result<usize, Stop>
     ensures { result ≡ case_turn head sheet.now input.now expected.now }
 {
     let size = crate::parts::lent_size(head.operation, head.room);
-    if 65536 < size {
-        return Turn::Stops(Stop::Broken);
+    if MOST_BYTES < size {
+        return Err(Stop::Broken);
     }
-    let mut lent = byte_space();
+    let mut lent = zeroed::<u8, MOST_BYTES>(0);
     compared(head, sheet, input, expected, &mut lent[0..size])
 }
 
@@ -131,12 +131,10 @@ fn try_case(
     sheet: &mut [u8],
     input: &mut [u8],
     expected: &mut [u8],
-) -> Turn
+) -> Result<usize, Stop>
     ensures { Tried head used sheet.old sheet.new input.new expected.new result }
 {
-    if !crate::case::read_parts(source, head, sheet, input, expected) {
-        return Turn::Stops(Stop::Broken);
-    }
+    crate::case::read_parts(source, head, sheet, input, expected)?;
     lend(
         head,
         part_of(sheet, 0, sheet_size(head, used)),
@@ -152,14 +150,11 @@ fn next_case(
     sheet: &mut [u8],
     input: &mut [u8],
     expected: &mut [u8],
-) -> Turn
+) -> Result<usize, Stop>
     ensures { Next used sheet.old sheet.new input.new expected.new result }
 {
-    match crate::case::read_head(source) {
-        HeadRead::Is(head) => try_case(source, head, used, sheet, input, expected),
-        HeadRead::End => Turn::Stops(Stop::End),
-        HeadRead::Broken => Turn::Stops(Stop::Broken),
-    }
+    let head = crate::case::read_head(source)?;
+    try_case(source, head, used, sheet, input, expected)
 }
 
 // Behind the last case that may be there.
@@ -175,23 +170,16 @@ fn last_stop(source: &mut Source) -> Stop {
 fn replay(source: &mut Source, sheet: &mut [u8], input: &mut [u8], expected: &mut [u8]) -> Outcome
     ensures { Replayed result }
 {
-    let mut used: usize = 0;
-    let mut n: u64 = 0;
-    while n < MOST_CASES {
-        let t = next_case(source, used, sheet, input, expected);
-        match t {
-            Turn::Agrees(s) => {
-                used = s;
-            }
-            Turn::Stops(stop) => {
-                return Outcome { stop, agreed: n };
-            }
+    let mut used = 0;
+    for agreed in 0..MOST_CASES {
+        match next_case(source, used, sheet, input, expected) {
+            Ok(size) => used = size,
+            Err(stop) => return Outcome { stop, agreed },
         }
-        n += 1;
     }
     Outcome {
         stop: last_stop(source),
-        agreed: n,
+        agreed: MOST_CASES,
     }
 }
 
@@ -205,21 +193,12 @@ fn tell(rt: &impl Print, o: Outcome) -> io::Result<()> {
     }
 }
 
-// Zeros. No contract: the type says the length, and a caller's proof does not compute the list.
-fn sheet_space() -> [u8; 16384] {
-    [0; 16384]
-}
-
-fn byte_space() -> [u8; 65536] {
-    [0; 65536]
-}
-
 // A read that failed is the answer, whatever came of the cases before.
 fn main(rt: HostRuntime) -> io::Result<()> {
     let mut source = Source::new(rt.stdin());
-    let mut sheet = sheet_space();
-    let mut input = byte_space();
-    let mut expected = byte_space();
+    let mut sheet = zeroed::<u8, MOST_SHEET>(0);
+    let mut input = zeroed::<u8, MOST_BYTES>(0);
+    let mut expected = zeroed::<u8, MOST_BYTES>(0);
     let outcome = replay(&mut source, &mut sheet, &mut input, &mut expected);
     source.finish()?;
     tell(&rt, outcome)

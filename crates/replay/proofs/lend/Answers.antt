@@ -4,13 +4,13 @@ use Rattle.replay.proofs.WordLaws.{front_length}
 use Rattle.replay.proofs.TurnLaws.{too_many, lent_some}
 use Rattle.replay.proofs.lend.Goals as goal
 
-pub returns-then-size-gt65536 : goal.returns-then-size-gt65536
-returns-then-size-gt65536 c =
+pub returns-then-size-gt-MOST_BYTES : goal.returns-then-size-gt-MOST_BYTES
+returns-then-size-gt-MOST_BYTES c =
     let a = c.args in
-    too_many a.head a.sheet.now a.input.now a.expected.now c.lent_size-size.ensures c.if-size-gt65536.true
+    too_many a.head a.sheet.now a.input.now a.expected.now c.lent_size-size.ensures c.if-size-gt-MOST_BYTES.true
 
 pub returns : goal.returns
 returns c =
     let a = c.args in
     c.compared.ensures
-    ∙ lent_some a.head a.sheet.now a.input.now a.expected.now c.lent_size-size.ensures c.if-size-gt65536.false _ (front_length c.byte_space-lent.result c.lent_size-size.result (omega (arith, c.byte_space-lent.type_inv, c.if-size-gt65536.false)))
+    ∙ lent_some a.head a.sheet.now a.input.now a.expected.now c.lent_size-size.ensures c.if-size-gt-MOST_BYTES.false _ (front_length c.zeroed-lent.result c.lent_size-size.result (omega (arith, c.zeroed-lent.type_inv, c.if-size-gt-MOST_BYTES.false)))

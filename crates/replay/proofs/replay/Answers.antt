@@ -1,16 +1,16 @@
-use Rattle.std.proofs.Common.{arith}
+use Rattle.std.proofs.Common.{◌≡◌, refl, arith}
 use Rattle.replay.specs.Turns.Agreed.{start}
 use Rattle.replay.proofs.TurnLaws.{agrees_too, was_stopped, was_full}
 use Rattle.replay.proofs.replay.Goals as goal
 
-pub loop-n-init : goal.loop-n-init
-loop-n-init c = (omega arith, start _)
+pub loop-agreed-init : goal.loop-agreed-init
+loop-agreed-init c = start _
 
-pub loop-n-preserved : goal.loop-n-preserved
-loop-n-preserved c = (omega arith, agrees_too c.loop-n.invariant.1 c.next_case-t.ensures c.in-Agrees.is)
+pub loop-agreed-preserved : goal.loop-agreed-preserved
+loop-agreed-preserved c = agrees_too c.loop-agreed.invariant c.next_case.ensures c.in-Ok.is
 
-pub returns-in-Stops : goal.returns-in-Stops
-returns-in-Stops c = was_stopped c.loop-n.invariant.1 c.next_case-t.ensures c.in-Stops.is
+pub returns-in-Err : goal.returns-in-Err
+returns-in-Err c = was_stopped c.loop-agreed.invariant c.next_case.ensures c.in-Err.is
 
 pub returns : goal.returns
-returns c = was_full c.loop-n.invariant.1 (omega (arith, c.loop-n.invariant.0, c.loop-n-test.false)) _
+returns c = was_full (let e : c.loop-agreed.agreed ≡ 1000000 = omega arith in rw e at c.loop-agreed.invariant) refl _

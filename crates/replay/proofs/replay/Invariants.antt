@@ -1,9 +1,5 @@
-use Rattle.std.proofs.Common.{◌-◌, ◌≤◌}
 use Rattle.replay.specs.Turns.{Agreed}
 use Rattle.replay.proofs.replay.Given as goal
 
-abbrev pub invariant-loop-n : goal.invariant-loop-n
-invariant-loop-n l = (l.n ≤ 1000000) × Agreed l.n l.used l.sheet
-
-abbrev pub decreases-loop-n : goal.decreases-loop-n
-decreases-loop-n l = 1000000 - l.n
+abbrev pub invariant-loop-agreed : goal.invariant-loop-agreed
+invariant-loop-agreed l = Agreed l.agreed l.used l.sheet

@@ -1,6 +1,5 @@
-use mathlib.Core.Path.{refl, ap}
+use Rattle.std.proofs.Common.{refl, ap, Ok}
 use Rattle.replay.specs.Cases.Reads.{numbers, nothing, cut}
-use Rattle.replay.specs.declared.case.HeadRead.TheVariants.{Is}
 use Rattle.replay.proofs.case.read_head.Goals as goal
 
 pub returns-then-got-eq0 : goal.returns-then-got-eq0
@@ -11,4 +10,4 @@ returns-then-got-ne36 c = cut refl
 
 pub returns : goal.returns
 returns c =
-    numbers c.fill-got.new.s c.fill-got.auto.s (ap Is c.head_of.ensures)
+    numbers c.fill-got.new.s c.fill-got.auto.s (ap Ok c.head_of.ensures)

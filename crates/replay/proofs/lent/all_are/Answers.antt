@@ -1,24 +1,12 @@
-use mathlib.Core.Path.{sym, ◌∙◌}
-use native.Mathlib.Omega.{arith}
-use borrow.Author.Tests.{eq-eqb, ne_eqb}
+use Rattle.std.proofs.Common.{ℕ, rules, tests, sym, ◌∙◌}
+use Rattle.std.proofs.lemmas.Iterator.{YieldsList-from_slice}
+use Rattle.std.proofs.lemmas.Iterator.Search.{all_from_yields_List}
 use lib.Dec.{eqb}
-use Rattle.lists.proofs.Scans.{all_go, all_stop, all_end}
+use Rattle.lists.proofs.Links.{all_list}
 use Rattle.replay.proofs.lent.all_are.Goals as goal
-
-pub returns-then-s-i : goal.returns-then-s-i
-returns-then-s-i c =
-    let l = c.loop-i in
-    let a = c.args in
-    sym (l.invariant.1 ∙ all_stop (λ x. eqb x a.b) a.s.now l.i (omega arith) (ne_eqb _ _ c.if-s-i.true))
-
-pub loop-i-preserved : goal.loop-i-preserved
-loop-i-preserved c =
-    let l = c.loop-i in
-    let a = c.args in
-    (omega arith, l.invariant.1 ∙ all_go (λ x. eqb x a.b) a.s.now l.i (omega arith) (eq-eqb _ _ c.if-s-i.false))
 
 pub returns : goal.returns
 returns c =
-    let l = c.loop-i in
-    let a = c.args in
-    sym (l.invariant.1 ∙ all_end (λ x. eqb x a.b) a.s.now l.i (omega arith))
+    let p = λ (x : ℕ). eqb x c.args.b in
+    all_from_yields_List p _ _ c.all.result c.all.ensures.ran (YieldsList-from_slice c.args.s.now (cc)) (λ x b q k. search (rules, tests))
+    ∙ sym (all_list p c.args.s.now)

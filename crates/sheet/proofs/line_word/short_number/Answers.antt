@@ -25,8 +25,8 @@ returns g c =
     let a = c.args in
     let z : 1 < g.row.N → get_or a.s.now a.at 0 ≡ 48 → ⊥ =
     elim c.else-this-gt1.branch [
-    | else-this-gt1-via-then-this-gt1+else-s-at-eq48 w ↦ λ h. w.if-s-at-eq48.false
-    | else-this-gt1-via-else-this-gt1 w ↦ λ h. absurd (omega (arith, h, w.if-this-gt1.false))
+      | else-this-gt1-via-then-this-gt1+else-s-at-eq48 w ↦ λ h. w.if-s-at-eq48.false
+      | else-this-gt1-via-else-this-gt1 w ↦ λ h. absurd (omega (arith, h, w.if-this-gt1.false))
     ] in
     let l = c.loop-i in
     let e : l.i ≡ g.row.N = omega arith in

@@ -4,7 +4,7 @@ use mathlib.Core.List.{List}
 use Prim.Native.Nat.{ℕ, ◌<◌, ◌≤◌}
 use lib.ListN.{length, replicate}
 use borrow.Author.Tests.{lt-ltb, le-ltb}
-use Rattle.answers.specs.Report.{zeros}
+use Rattle.answers.specs.Report.{Report, zeros}
 use Rattle.answers.specs.Outcome.{Outcome, Ended}
 use Rattle.answers.specs.Outcome.Outcome.{refused_with}
 use Rattle.answers.specs.declared.refusal.Refusal.{Refusal}
@@ -35,6 +35,11 @@ module _ (sheet bytes ends text : List ℕ) where
   unfolding assemble
   small h = rw (le-ltb 1048576 (length text) h)
 
+  -- a text under inputs that were read
+  pub read_text : {types₀ ops₀ types ops : List (List ℕ)} {last : ℕ} {before room after : List ℕ} {r : Report} → length text ≤ 1048576 → Given sheet bytes ends types₀ ops₀ types ops (Ok last)
+      → Ended (text_outcome (context_from sheet types ops bytes ends) text) before room after r → Ended (assemble sheet bytes ends text) before room after r
+  read_text h g e = rw (small h) (read_on (text_under text) g e)
+
   module _ {before room : List ℕ} (now : List ℕ) (answer : Result ℕ Failure) where
     -- what is left of an operation that refuses
     refusal_end : (x : Refusal) → answer ≡ Err (Refused x) → length now ≡ length before → assemble sheet bytes ends text ≡ refused_with x
@@ -46,12 +51,7 @@ module _ (sheet bytes ends text : List ℕ) where
     large_text h a l = refusal_end TooLarge a l (large h)
 
     module _ {types₀ ops₀ types ops : List (List ℕ)} (h : length text ≤ 1048576) where
-      -- one under inputs that were read
-      pub read_text : {last : ℕ} → Given sheet bytes ends types₀ ops₀ types ops (Ok last) → Ended (text_outcome (context_from sheet types ops bytes ends) text) before room (left_by answer now) (answer_report answer)
-          → Ended (assemble sheet bytes ends text) before room (left_by answer now) (answer_report answer)
-      read_text g e = rw (small h) (read_on (text_under text) g e)
-
-      -- and under inputs that are refused
+      -- under inputs that are refused
       pub refused_inputs : {x : Refusal} → Given sheet bytes ends types₀ ops₀ types ops (Err x) → answer ≡ Err (Refused x) → length now ≡ length before
           → Ended (assemble sheet bytes ends text) before room (left_by answer now) (answer_report answer)
       refused_inputs {x} g a l = rw a (rw (small h) (refused_on (text_under text) g refl (ap (λ (n : ℕ). replicate n 0) l)))

@@ -65,7 +65,7 @@ module _ (e : Bool) (stop : List ℕ → Bool) where
       inside_go q = rw (before_next s i, add-one, drop-cons s i 0 h, inside_cons_go _ _ _ q) (omega arith)
 
 -- the scan for a comment is that of the definition, and so is the scan for a comma
-comment_scans : (p : ℕ) (s : List ℕ) → (outside_by true is_comment p s ≡ outside p s) × (inside_by true is_comment p s ≡ inside p s)
+pub comment_scans : (p : ℕ) (s : List ℕ) → (outside_by true is_comment p s ≡ outside p s) × (inside_by true is_comment p s ≡ inside p s)
 unfolding outside_by outside
 comment_scans p [] = (refl, refl)
 comment_scans p (b ∷ s) = let h = comment_scans b s in rw (h.0, h.1) (refl, refl)
@@ -73,7 +73,7 @@ comment_scans p (b ∷ s) = let h = comment_scans b s in rw (h.0, h.1) (refl, re
 pub comment_scan : (p : ℕ) (s : List ℕ) → outside_by true is_comment p s ≡ outside p s
 comment_scan p s = (comment_scans p s).0
 
-comma_scans : (p : ℕ) (s : List ℕ) → (outside_by false is_comma p s ≡ comma_outside s) × (inside_by false is_comma p s ≡ comma_inside s)
+pub comma_scans : (p : ℕ) (s : List ℕ) → (outside_by false is_comma p s ≡ comma_outside s) × (inside_by false is_comma p s ≡ comma_inside s)
 unfolding outside_by comma_outside
 comma_scans p [] = (refl, refl)
 comma_scans p (b ∷ s) = let h = comma_scans b s in rw (h.0, h.1) (refl, refl)

@@ -20,13 +20,13 @@ use Rattle.hasm_read.proofs.ShapeLaws.{kept_not_empty}
 use Rattle.hasm_read.proofs.LabelLaws.{label_kept, label_alone}
 
 -- what stands of a line: the n bytes at a, s
-record Cut (line : List ℕ) (a n : ℕ) (s : List ℕ) : Type 0 where
-  text : trim (strip_comment line) ≡ s
-  shown : s ≡ part line a n
-  room : a + n ≤ length line
+pub record Cut (line : List ℕ) (a n : ℕ) (s : List ℕ) : Type 0 where
+  pub text : trim (strip_comment line) ≡ s
+  pub shown : s ≡ part line a n
+  pub room : a + n ≤ length line
 
 -- the places that a scan finds: the comment at c, the end a of the white space in front, and the length n without that behind
-cut_at : (line : List ℕ) (c a n : ℕ) → (c ≡ outside 0 line) × (c ≤ length line) → (a ≡ 0 + run is_white (take c line)) × (a ≤ length (take c line))
+pub cut_at : (line : List ℕ) (c a n : ℕ) → (c ≡ outside 0 line) × (c ≤ length line) → (a ≡ 0 + run is_white (take c line)) × (a ≤ length (take c line))
     → (n ≡ solid_length (part line a (c - a))) × (n ≤ length (part line a (c - a))) → Cut line a n (part line a (a + n - a))
 unfolding trim
 cut_at line c a n p q r =
@@ -41,21 +41,21 @@ module _ (line : List ℕ) (a n : ℕ) (s : List ℕ) (h : Cut line a n s) where
   size = rw h.shown (part_length line a n h.room)
 
   -- a line that is not skipped is not empty
-  not_empty : is_skipped s ≡ false → 0 < n
+  pub not_empty : is_skipped s ≡ false → 0 < n
   not_empty t = omega (arith, kept_not_empty s t, size)
 
-  nothing_of : (e : Context) → is_skipped s ≡ true → StatementIn (statement_of e line) line Nothing
+  pub nothing_of : (e : Context) → is_skipped s ≡ true → StatementIn (statement_of e line) line Nothing
   unfolding statement_in
   nothing_of e t = none (rw (h.text, t)) refl
 
   module _ (e : Context) (t : is_skipped s ≡ false) where
-    label_of : is_label s ≡ true → StatementIn (statement_of e line) line (Label a (n - 1))
+    pub label_of : is_label s ≡ true → StatementIn (statement_of e line) line (Label a (n - 1))
     unfolding statement_in
     label_of l =
         let k : 0 < n = not_empty t in
         label a (n - 1) (rw (h.text, t, l, size, h.shown, take-take (n - 1) n (drop a line) (omega arith))) refl (omega (arith, h.room))
 
-    code_of : is_label s ≡ false → (m : ℕ) → behind_offset e s ≡ drop m s → m ≤ length s → StatementIn (statement_of e line) line (Instruction (a + m) (a + n))
+    pub code_of : is_label s ≡ false → (m : ℕ) → behind_offset e s ≡ drop m s → m ≤ length s → StatementIn (statement_of e line) line (Instruction (a + m) (a + n))
     unfolding statement_in
     code_of l m b k =
         let f : m ≤ n = omega (arith, k, size) in

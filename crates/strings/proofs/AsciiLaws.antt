@@ -50,7 +50,7 @@ from_zero : (ends : List ℕ) → Rising ends → Rising (0 ∷ ends)
 from_zero ends r zero l = omega arith
 from_zero ends r (suc i) l = r i (omega arith)
 
-ascii_sound : (bytes ends : List ℕ) → ((i : ℕ) → get_or bytes i 0 < 128) → InOrder bytes ends → fault bytes ends ≡ missing
+pub ascii_sound : (bytes ends : List ℕ) → ((i : ℕ) → get_or bytes i 0 < 128) → InOrder bytes ends → fault bytes ends ≡ missing
 ascii_sound bytes ends h o = sound_from bytes ends 0 0 h (from_zero ends o.rising) o.inside
 
 -- so no entry is answered

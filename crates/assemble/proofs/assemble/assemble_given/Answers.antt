@@ -25,4 +25,4 @@ with_words-requires-clause-room c =
 pub returns : goal.returns
 returns c =
     let a = c.args in
-    read_text a.sheet.now a.strings.bytes.now a.strings.ends.now a.text.now _ _ c.if-text-gt-TEXT_LIMIT.false c.in_ok-read_inputs.ensures (search rules)
+    read_text a.sheet.now a.strings.bytes.now a.strings.ends.now a.text.now c.if-text-gt-TEXT_LIMIT.false c.in_ok-read_inputs.ensures (search rules)

@@ -1,22 +1,26 @@
 -- Bytes copied to where they fit. Assumes nothing.
 use mathlib.Core.Path.{◌≡◌, refl, sym, ap, ◌∙◌}
-use mathlib.Core.List.{List, [], ◌∷◌, append_assoc}
+use mathlib.Core.List.{List, [], ◌∷◌}
 use Prim.Native.Nat.{ℕ, suc, ◌+◌, ◌-◌, ◌<◌, ◌≤◌, min}
+use native.Mathlib.Numerals.{add-one}
+use native.Mathlib.Nat.{add-zero, add_assoc}
 use native.Mathlib.Omega.{arith}
-use lib.ListN.{length, take, drop, length-drop}
-use lib.Seq.{sets, drop-drop, set_out, length-take-le}
-use borrow.Rule.Slice.PartMut.{put_mid}
+use lib.ListN.{length, get_or, set, take, drop, length-drop}
+use lib.Seq.{sets, set_out, length-take-le, take-suc}
 use Rattle.std.proofs.lemmas.List.{take-append-drop}
 use Rattle.lists.specs.Write.{put, Put, top}
-use Rattle.lists.proofs.Writes.{put_fits, same_piece, kept_length, ◌then◌}
+use Rattle.lists.proofs.Writes.{same_piece, kept_length, ◌then◌, wrote, wrote_none}
 
--- all of them
-pub copied_all : (out s new : List ℕ) (at k : ℕ) → length out ≤ top → at + length s ≤ length out → new ≡ s → k ≡ length s → Put out at s (put_mid at k out new) (at + length s)
-copied_all out s new at k h l e f = record {
-  small = h;
-  next = omega arith;
-  bytes = rw (e, f, drop-drop (length s) at out) (sym (put_fits out at s l ∙ append_assoc (take at out) s (drop (at + length s) out)));
-}
+-- before the first turn of a loop that copies
+pub copy_start : (out s : List ℕ) (at : ℕ) → length out ≤ top → at ≤ top → Put out at (take 0 s) out (at + 0)
+copy_start out s at h k = rw (add-zero at) (wrote_none h k)
+
+-- a turn
+pub copy_turn : (out₀ out s : List ℕ) (at i : ℕ) → i < length s → length out ≤ top → at + i < top → Put out₀ at (take i s) out (at + i)
+    → Put out₀ at (take (i + 1) s) (set out (at + i) (get_or s i 0)) (at + (i + 1))
+copy_turn out₀ out s at i h l k p =
+    let w : Put out (at + i) _ (set out (at + i) (get_or s i 0)) (at + i + 1) = wrote l (omega arith) refl in
+    rw (sym (add_assoc at i 1)) (same_piece (sym (rw add-one (take-suc _ _ 0 h))) (p then w))
 
 -- behind the end nothing is written
 past_end : (out s : List ℕ) (at : ℕ) → length out ≤ at → put out at s ≡ out
@@ -28,14 +32,10 @@ pub passed_all : (out s : List ℕ) (at r : ℕ) → length out ≤ top → leng
 passed_all out s at r h l n = record { small = h; next = n; bytes = sym (past_end out s at l) }
 
 -- as many as there is room for
-pub copied_some : (out s new : List ℕ) (at k r : ℕ) → length out ≤ top → at < length out → length out < at + length s → new ≡ take (length out - at) s → k ≡ length out - at → r ≡ min (at + length s) top
-    → Put out at s (put_mid at k out new) r
-copied_some out s new at k r h l b e f n =
+pub copied_some : (out s o : List ℕ) (at q r : ℕ) → at < length out → length out < at + length s → Put out at (take (length out - at) s) o q → r ≡ min (at + length s) top → Put out at s o r
+copied_some out s o at q r b e w n =
     let m = length out - at in
-    let t = take m s in
-    let c : length t ≡ m = length-take-le m s (omega arith) in
-    let w = copied_all out t new at k h (omega (arith, c)) e (omega (arith, c, f)) in
-    let o = put_mid at k out new in
+    let c : length (take m s) ≡ m = length-take-le m s (omega arith) in
     let g : length o ≡ length out = kept_length w in
-    let v = passed_all o (drop m s) (at + length t) r (omega (arith, g)) (omega (arith, g, c)) (omega (arith, c, n, length-drop m s)) in
+    let v = passed_all o (drop m s) q r (omega (arith, g, w.small)) (omega (arith, g, c, w.next, w.small)) (omega (arith, c, n, w.next, w.small, length-drop m s)) in
     same_piece (take-append-drop m s) (w then v)

@@ -29,7 +29,8 @@ fn same_long(s: &[u8], t: &[u8]) -> bool
     four_at(s, last) == four_at(t, last)
 }
 
-// Whether two slices hold the same bytes. Lengths are compared first.
+// Whether two slices hold the same bytes. Lengths are compared first. Fewer than four bytes are compared in a loop of their own: the
+// library's comparison takes twice the time on so few.
 pub fn same_bytes(s: &[u8], t: &[u8]) -> bool
     ensures { result ≡ same s.now t.now }
 {
@@ -39,15 +40,28 @@ pub fn same_bytes(s: &[u8], t: &[u8]) -> bool
     if 4 <= s.len() {
         return same_long(s, t);
     }
-    s == t
+    for i in 0..s.len() {
+        if s[i] != t[i] {
+            return false;
+        }
+    }
+    true
 }
 
-// Whether s opens with p from `at` on.
+// Whether s opens with p from `at` on. In a loop, as above: what is asked for has few bytes.
 pub fn opens_at(s: &[u8], at: usize, p: &[u8]) -> bool
     ensures { result ≡ opens p.now (drop at s.now) }
 {
     if s.len() < at {
         return p.is_empty();
     }
-    s[at..].starts_with(p)
+    if s.len() - at < p.len() {
+        return false;
+    }
+    for i in 0..p.len() {
+        if s[at + i] != p[i] {
+            return false;
+        }
+    }
+    true
 }

@@ -15,11 +15,21 @@ pub(crate) const OFFSET_LIMIT: usize = 134_217_728;
 
 const COLON: u8 = b':';
 
+// The bytes from `start` on, found at once: `skip` on an iterator would step over each byte in front of them.
+fn rest(text: &[u8], start: usize) -> &[u8]
+    ensures { result.now ≡ drop start text.now }
+{
+    &text[start.min(text.len())..]
+}
+
 // How many bytes stand in front of the next colon, or of the end.
 fn label_size(text: &[u8], start: usize) -> usize
     ensures { result ≡ prefix_len not_colon (drop start text.now) }
 {
-    text.iter().skip(start).take_while(|&&b| b != COLON).count()
+    rest(text, start)
+        .iter()
+        .take_while(|&&b| b != COLON)
+        .count()
 }
 
 #[tactic(auto, using(lists::proofs::Links::run_prefix))]

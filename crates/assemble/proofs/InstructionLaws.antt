@@ -1,6 +1,6 @@
 -- One instruction of a text, written. Assumes nothing.
 use mathlib.Core.Path.{◌≡◌, refl, ap, sym, ◌∙◌}
-use Rattle.std.proofs.Common.{Option}
+use Rattle.std.proofs.Common.{Option, Some, None}
 use mathlib.Core.List.{List, [], ◌∷◌}
 use Prim.Native.Nat.{ℕ, ◌+◌, ◌-◌, ◌<◌, ◌≤◌}
 use native.Mathlib.Omega.{arith}
@@ -34,11 +34,17 @@ unfolding found_in
 found_or_none (found k) = refl
 found_or_none missing = refl
 
+pub found_opcode : (k : ℕ) (x : Found) → Some k ≡ found_of x → k ≡ found_in x
+found_opcode k x e = ap (λ (p : Option ℕ). unwrap_or p 0) e ∙ found_or_none x
+
+pub missing_opcode : (x : Found) → None ≡ found_of x → 0 ≡ found_in x
+missing_opcode x e = ap (λ (p : Option ℕ). unwrap_or p 0) e ∙ found_or_none x
+
 pub opcode_found : (x : Found) (o : Option ℕ) (k : ℕ) → o ≡ found_of x → k ≡ unwrap_or o 0 → k ≡ found_in x
 opcode_found x o k e f = f ∙ ap (λ (p : Option ℕ). unwrap_or p 0) e ∙ found_or_none x
 
 -- it is one of the rows
-opcode_below : (s name : List ℕ) (rows : List (List ℕ)) → length rows ≡ 256 → found_in (find_name s name 0 rows) < 256
+pub opcode_below : (s name : List ℕ) (rows : List (List ℕ)) → length rows ≡ 256 → found_in (find_name s name 0 rows) < 256
 unfolding found_in
 opcode_below s name rows h = go (find_name s name 0 rows) (found_inside s name 0 rows)
   where

@@ -22,10 +22,10 @@ use Rattle.assemble.proofs.BodyLoop.{body_nothing, body_label, body_written, bod
 
 module _ (e : Context) (labels : List ℕ → Found) (s : List ℕ) (at end : ℕ) (place : Place) (h : LineAt s at end place.offset) (l : List ℕ) (i : l ≡ line_in s at end)
     {out₀ out : List ℕ} {n : ℕ} (g : Going e labels s out₀ out at n place) where
-  turn_nothing : StatementIn (statement_of e l) l read.Nothing → Turned e labels s out₀ out (end + 1) n place (Ok place)
+  pub turn_nothing : StatementIn (statement_of e l) l read.Nothing → Turned e labels s out₀ out (end + 1) n place (Ok place)
   turn_nothing r = (body_nothing e labels g end h.inside h.ends (rw i at (was_nothing (statement_of e l) l r)), omega arith)
 
-  turn_label : (a m : ℕ) → StatementIn (statement_of e l) l (read.Label a m) → Turned e labels s out₀ out (end + 1) n place (Ok place)
+  pub turn_label : (a m : ℕ) → StatementIn (statement_of e l) l (read.Label a m) → Turned e labels s out₀ out (end + 1) n place (Ok place)
   turn_label a m r =
       let x : statement_of e (line_in s at end) ≡ labelled (part l a m) = ap (statement_of e) (sym i) ∙ (was_label (statement_of e l) l a m r).0 in
       (body_label e labels g end h.inside h.ends (part l a m) x, omega arith)

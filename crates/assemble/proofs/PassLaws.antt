@@ -1,11 +1,14 @@
 -- From one pass over a text to the next. Assumes nothing.
 use mathlib.Core.Path.{◌≡◌, refl, ap, sym, ◌∙◌}
 use mathlib.Core.List.{List, [], ◌∷◌}
-use Prim.Native.Nat.{ℕ}
+use mathlib.Core.Bool.{Bool, true, false}
+use Prim.Native.Nat.{ℕ, ◌≤◌}
 use native.Mathlib.Omega.{arith}
-use lib.ListN.{length, replicate, length-replicate}
+use lib.ListN.{length, take, replicate, length-replicate}
 use Rattle.std.proofs.Common.{Result, Ok, Err}
 use lib.Seq.{take_all}
+use Rattle.lists.specs.Choice.{pick}
+use Rattle.lists.proofs.Tests.{by_test}
 use Rattle.answers.specs.Report.{zeros}
 use Rattle.answers.specs.Answers.{answer_report}
 use Rattle.answers.specs.declared.failure.Failure.{Failure}
@@ -18,7 +21,10 @@ use Rattle.spec_hasm.specs.Text.{lines_of}
 use Rattle.spec_hasm.specs.Assemble.{Assembled, codes_of, unless_bad_line, unless_bad_name, labels_from, bytes_from, assemble_codes, assemble_text}
 use Rattle.spec_hasm.specs.Assemble.Assembled.{not_assembled}
 use Rattle.spec_hasm.specs.Operation.{assemble_outcome}
+use Rattle.hasm_labels.specs.Slots.{labels_in}
 use Rattle.hasm_labels.specs.LongLabels.{bare_label, long_of}
+use Rattle.hasm_labels.specs.Keys.{LabelsIndexed}
+use Rattle.hasm_labels.specs.Labelled.{Labelled}
 use Rattle.hasm_labels.specs.NamesRead.{AllNamed}
 use Rattle.hasm_labels.specs.declared.names_pass.Taken.{Taken}
 use Rattle.operation.specs.Ends.{measured_of, left_by}
@@ -32,6 +38,20 @@ pub good_text : (e : Context) (text : List ℕ) → ((rest : Assembled) → unle
     → assemble_text e text ≡ bytes_from e (labels_of e text) 0 (codes_of e text)
 unfolding assemble_text assemble_codes
 good_text e text l n = l _ ∙ n _
+
+-- what is known of the labels, with an index of the long ones where it is whole
+module _ {e : Context} {text : List ℕ} {slots : List (List ℕ)} {taken : Taken} (n : Named e text taken slots) where
+  pub known_by : {index : List ℕ} {m heads : ℕ} {owned : Bool} (whole : Bool) → heads ≡ pick whole m 0 → (whole ≡ true → LabelsIndexed owned text slots index m (long_of (labels_from e 0 (codes_of e text))))
+      → Labelled e text slots index (record { heads = heads; owned = owned; place = taken.place })
+  known_by whole h f = record {
+    named = n.named;
+    indexed = λ l. by_test whole (λ w. rw (h, w) (f w)) (λ w. absurd (omega (arith, l, rw w at h)));
+    bare = n.bare;
+  }
+
+  -- the slots hold the long labels, where they fit
+  pub known_slots : {index : List ℕ} {m : ℕ} → taken.kept ≤ length slots → LabelsIndexed false text slots index m (labels_in text (take taken.kept slots)) → LabelsIndexed false text slots index m (long_of (labels_from e 0 (codes_of e text)))
+  known_slots l i = rw (n.held l) at i
 
 -- what is left once it is cleared is left as it is
 left_twice : (answer : Result ℕ Failure) (now after : List ℕ) → after ≡ left_by answer now → left_by answer after ≡ after

@@ -1,19 +1,55 @@
 -- A token's value by the family of its type, and a jump's distance by how its target is written. Assumes nothing.
-use mathlib.Core.Path.{◌≡◌, refl, ap, ◌∙◌}
+use mathlib.Core.Path.{◌≡◌, refl, ap, sym, ◌∙◌}
+use mathlib.Core.List.{List}
 use Prim.Native.Nat.{ℕ, ◌^◌, ◌%◌, ◌<◌}
-use Rattle.std.proofs.Common.{Some, None, Result, Ok, Err}
+use Rattle.std.proofs.Common.{Option, Some, None, Result, Ok, Err}
 use Rattle.std.specs.Result.{MatchResult, IsErrAnd}
 use native.Mathlib.Omega.{arith}
+use borrow.Author.Tests.{ne_eqb}
 use Rattle.lists.specs.Found as search
 use Rattle.lists.specs.Found.Found.{found, missing}
 use Rattle.answers.specs.declared.refusal.OperandFault.{OperandFault}
 use Rattle.answers.specs.declared.refusal.OperandFault.TheVariants as fault
 use Rattle.spec_numbers.specs.TwosComplement.{wrap_sub}
+use Rattle.spec_numbers.specs.Parse.{parse_i32}
+use Rattle.spec_numbers.specs.Double.{read_double}
+use Rattle.spec_sheet.specs.Types.{family_of, width_of}
 use Rattle.spec_hasm.specs.Token as definition
 use Rattle.spec_hasm.specs.Token.{number_or, found_or, register_value, unsigned_value, string_value, target_in, distance_to, token_value}
 use Rattle.spec_hasm.specs.Token.Value.{value, refused}
 use Rattle.slices.specs.Answers.{found_of}
 use Rattle.hasm_tokens.specs.Values.{token_answer}
+use Rattle.hasm_tokens.specs.Targets.{target_or}
+use Rattle.hasm_tokens.specs.declared.address_token.Target.{Target}
+use Rattle.hasm_tokens.specs.declared.address_token.Target.TheVariants as target
+
+-- a token for an operand of each family
+module _ (bytes ends : List ℕ) (labels : List ℕ → search.Found) (offset code : ℕ) (t : List ℕ) {v : Result ℕ OperandFault} where
+  pub of_register : family_of code ≡ 1 → v ≡ token_answer (register_value t) → v ≡ token_answer (token_value bytes ends labels offset code t)
+  unfolding token_value
+  of_register e g = rw e g
+
+  pub of_number : family_of code ≡ 2 → v ≡ token_answer (unsigned_value t) → v ≡ token_answer (token_value bytes ends labels offset code t)
+  unfolding token_value
+  of_number e g = rw e g
+
+  pub of_string : family_of code ≡ 3 → v ≡ token_answer (string_value bytes ends t) → v ≡ token_answer (token_value bytes ends labels offset code t)
+  unfolding token_value
+  of_string e g = rw e g
+
+  pub of_address : (w : ℕ) → family_of code ≡ 4 → w ≡ width_of code → v ≡ token_answer (distance_to w offset (target_in labels t)) → v ≡ token_answer (token_value bytes ends labels offset code t)
+  unfolding token_value
+  of_address w e f g = rw (e, sym f) g
+
+  pub of_immediate : family_of code ≡ 5 → v ≡ token_answer (number_or fault.Number (parse_i32 t)) → v ≡ token_answer (token_value bytes ends labels offset code t)
+  unfolding token_value
+  of_immediate e g = rw e g
+
+  pub of_double : (family_of code ≡ 1 → ⊥) → (family_of code ≡ 2 → ⊥) → (family_of code ≡ 3 → ⊥) → (family_of code ≡ 4 → ⊥) → (family_of code ≡ 5 → ⊥)
+      → v ≡ token_answer (number_or fault.Double (read_double t)) → v ≡ token_answer (token_value bytes ends labels offset code t)
+  unfolding token_value
+  of_double n1 n2 n3 n4 n5 g =
+      rw (ne_eqb (family_of code) 1 n1, ne_eqb (family_of code) 2 n2, ne_eqb (family_of code) 3 n3, ne_eqb (family_of code) 4 n4, ne_eqb (family_of code) 5 n5) g
 
 -- a distance takes the low 32 bits of a target
 distance_low : (width offset target : ℕ) → offset < 2 ^ 32 → distance_to width offset (value (target % 2 ^ 32)) ≡ distance_to width offset (value target)
@@ -46,6 +82,23 @@ module _ (width offset : ℕ) (l : search.Found) where
 pub no_target : (width offset : ℕ) (x : definition.Value) → x ≡ refused fault.Address → Err fault.Address ≡ token_answer (distance_to width offset x)
 unfolding distance_to
 no_target width offset x e = rw e refl
+
+-- the distance to a target, by how the token writes it: its offset, a label, or neither
+module _ (t : List ℕ) (width offset : ℕ) (r : Target) (h : (labels : List ℕ → search.Found) → target_in labels t ≡ target_or r (labels t))
+    (labels : List ℕ → search.Found) where
+  by_target : (a : Target) → r ≡ a → token_answer (distance_to width offset (target_in labels t)) ≡ token_answer (distance_to width offset (target_or a (labels t)))
+  by_target a e = ap (λ (x : definition.Value). token_answer (distance_to width offset x)) (h labels ∙ ap (λ (b : Target). target_or b (labels t)) e)
+
+  pub to_offset : (n : ℕ) {v : Result ℕ OperandFault} → r ≡ target.Offset n → v ≡ token_answer (distance_to width offset (value n)) → v ≡ token_answer (distance_to width offset (target_in labels t))
+  to_offset n e g = g ∙ sym (by_target (target.Offset n) e)
+
+  pub to_label : {f : Option ℕ} {v : Result ℕ OperandFault} → r ≡ target.Label → f ≡ found_of (labels t)
+      → ((l : search.Found) → f ≡ found_of l → v ≡ token_answer (distance_to width offset (found_or fault.Address l))) → v ≡ token_answer (distance_to width offset (target_in labels t))
+  to_label e f g = g (labels t) f ∙ sym (by_target target.Label e)
+
+  pub to_none : r ≡ target.Bad → Err fault.Address ≡ token_answer (distance_to width offset (target_in labels t))
+  unfolding distance_to
+  to_none e = sym (by_target target.Bad e)
 
 -- a token's value that is bits, or a refusal
 pub value_bits : (x : definition.Value) (n : ℕ) → token_answer x ≡ Ok n → x ≡ value n

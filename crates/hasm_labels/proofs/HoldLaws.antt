@@ -115,7 +115,7 @@ module _ (text t : List ℕ) (slots slots' : List (List ℕ)) (p p' : Progress) 
           behind = rw (kept, stored) h.behind;
         }))
 
-    held_same : same own_text t ≡ true → p'.place ≡ Some p.offset → p'.offset ≡ p.offset → Held text t slots p slots' p'
+    pub held_same : same own_text t ≡ true → p'.place ≡ Some p.offset → p'.offset ≡ p.offset → Held text t slots p slots' p'
     held_same e f o =
         record {
           noted = λ slots₀ waiting u labels h.
@@ -128,7 +128,7 @@ module _ (text t : List ℕ) (slots slots' : List (List ℕ)) (p p' : Progress) 
           place = λ n a b. rw f a;
         }
 
-    held_other : same own_text t ≡ false → p'.place ≡ p.place → p'.offset ≡ p.offset → Held text t slots p slots' p'
+    pub held_other : same own_text t ≡ false → p'.place ≡ p.place → p'.offset ≡ p.offset → Held text t slots p slots' p'
     held_other e f o =
         record {
           noted = λ slots₀ waiting u labels h.

@@ -1,11 +1,12 @@
 -- The ways through the reading of a jump's target and through its distance, one law for each. Assumes nothing.
-use mathlib.Core.Path.{◌≡◌, refl, ap, ◌∙◌}
+use mathlib.Core.Path.{◌≡◌, refl, ap, sym, ◌∙◌}
+use mathlib.Core.Bool.{true, false}
 use mathlib.Core.List.{List, [], ◌∷◌}
-use Prim.Native.Nat.{ℕ, ◌-◌, ◌^◌, ◌<◌}
+use Prim.Native.Nat.{ℕ, ◌-◌, ◌^◌, ◌≤◌, ◌<◌}
 use native.Mathlib.Omega.{arith}
-use lib.Dec.{eqb}
+use lib.Dec.{eqb, leb}
 use lib.ListN.{length, take, drop, get_or}
-use borrow.Author.Tests.{eq-eqb, ne_eqb}
+use borrow.Author.Tests.{eq-eqb, ne_eqb, le-leb, lt-leb}
 use Rattle.std.specs.Prelude.{Some, None}
 use Rattle.lists.specs.Found.{Found}
 use Rattle.lists.specs.Found.Found.{missing}
@@ -13,9 +14,10 @@ use Rattle.lists.proofs.Parts.{tail_part}
 use Rattle.lists.proofs.Tests.{by_test}
 use Rattle.spec_numbers.specs.Parse.{Parsed, parse_u32}
 use Rattle.spec_numbers.specs.Parse.Parsed.{is, bad}
+use Rattle.spec_numbers.specs.TwosComplement.{wrap_sub}
 use Rattle.spec_numbers.proofs.ParseLaws.{u32_bound}
 use Rattle.answers.specs.declared.refusal.OperandFault.TheVariants as fault
-use Rattle.spec_hasm.specs.Token.{found_or, offset_or, target_in}
+use Rattle.spec_hasm.specs.Token.{found_or, offset_or, target_in, is_near, distance_to}
 use Rattle.spec_hasm.specs.Token.Value.{value, refused}
 use Rattle.numbers.specs.Answers.{number_of}
 use Rattle.numbers.proofs.AnswerLaws.{number_is, number_bad}
@@ -63,3 +65,28 @@ offset_below t n e =
 -- so is the offset that the code answers
 pub offset_answer : (t : List ℕ) (n : ℕ) (r : Target) → ((labels : List ℕ → Found) → target_in labels t ≡ target_or r (labels t)) → r ≡ Offset n → n < 2 ^ 32
 offset_answer t n r h e = offset_below t n (h (λ (s : List ℕ). missing) ∙ ap (λ (a : Target). target_or a missing) e)
+
+-- a distance is near as it is small, as it is just below zero, and else it is not
+module _ (d : ℕ) where
+  pub near_small : d ≤ 127 → is_near d ≡ true
+  unfolding is_near
+  near_small h = rw (le-leb _ _ h)
+
+  pub near_large : 127 < d → is_near d ≡ leb (2 ^ 32 - 128) d
+  unfolding is_near
+  near_large h = rw (lt-leb _ _ h)
+
+-- a distance d of four bytes, a near one, and one that is too far
+module _ (width offset target d : ℕ) (e : d ≡ wrap_sub target offset) where
+  pub distance_wide : width ≡ 4 → distance_to width offset (value target) ≡ value d
+  unfolding distance_to
+  distance_wide h = rw (eq-eqb width 4 h, sym e)
+
+  module _ (w : width ≡ 4 → ⊥) where
+    pub distance_near : is_near d ≡ true → distance_to width offset (value target) ≡ value d
+    unfolding distance_to
+    distance_near h = rw (ne_eqb width 4 w, sym e, h)
+
+    pub distance_far : is_near d ≡ false → distance_to width offset (value target) ≡ refused fault.Distance
+    unfolding distance_to
+    distance_far h = rw (ne_eqb width 4 w, sym e, h)

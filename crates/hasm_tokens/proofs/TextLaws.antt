@@ -5,10 +5,10 @@ use mathlib.Core.List.{List, [], ◌∷◌}
 use Prim.Native.Nat.{ℕ, zero, suc, ◌+◌, ◌-◌, ◌≤◌, ◌<◌}
 use native.Mathlib.Omega.{arith}
 use native.Mathlib.Nat.{zero-add}
-use lib.Dec.{eqb}
+use lib.Dec.{eqb, leb}
 use lib.ListN.{length, take, drop, get_or}
 use lib.Seq.{take-append_seam}
-use borrow.Author.Tests.{eq-eqb, ne_eqb, le-leb, lt-leb}
+use borrow.Author.Tests.{eq-eqb, ne_eqb, le-leb, lt-leb, leb-true}
 use Rattle.std.specs.Prelude.{Result, ok_or}
 use Rattle.lists.specs.Found as search
 use Rattle.lists.specs.Found.Found.{found, missing}
@@ -106,6 +106,10 @@ module _ (t : List ℕ) where
   unfolding is_quoted
   quoted_by h = rw (le-leb 2 (length t) h)
 
+  pub quoted_length : is_quoted t ≡ true → 2 ≤ length t
+  unfolding is_quoted
+  quoted_length e = leb-true 2 (length t) (both_left (leb 2 (length t)) (eqb (get_or t (length t - 1) 0) 34) e)
+
 -- a string's token: a number, no closing quote, and a text
 module _ (bytes ends t : List ℕ) where
   pub string_number : (get_or t 0 0 ≡ 34 → ⊥) → string_value bytes ends t ≡ unsigned_value t
@@ -142,3 +146,6 @@ module _ (t work : List ℕ) where
 pub not_quoted : (t : List ℕ) → length t ≡ 0 → get_or t 0 0 ≡ 34 → ⊥
 not_quoted [] h e = omega (arith, e)
 not_quoted (b ∷ s) h e = omega arith
+
+pub string_empty : (bytes ends t : List ℕ) → length t ≡ 0 → string_value bytes ends t ≡ unsigned_value t
+string_empty bytes ends t h = string_number bytes ends t (not_quoted t h)

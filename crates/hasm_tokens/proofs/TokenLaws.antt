@@ -1,8 +1,9 @@
 -- The ways through the reading of a number's token, one law for each. Assumes nothing.
 use mathlib.Core.Path.{◌≡◌, refl, ◌∙◌}
 use mathlib.Core.Bool.{true, false}
-use mathlib.Core.List.{List}
+use mathlib.Core.List.{List, [], ◌∷◌}
 use Prim.Native.Nat.{ℕ, ◌-◌}
+use native.Mathlib.Omega.{arith}
 use lib.Dec.{eqb}
 use lib.ListN.{length, take, drop, get_or}
 use Rattle.std.specs.Prelude.{Option, Result, ok_or}
@@ -14,6 +15,7 @@ use Rattle.answers.specs.declared.refusal.OperandFault.{OperandFault}
 use Rattle.answers.specs.declared.refusal.OperandFault.TheVariants as fault
 use Rattle.spec_hasm.specs.Line.{has_hex_prefix}
 use Rattle.spec_hasm.specs.Token.{number_or, register_value, unsigned_value}
+use Rattle.spec_hasm.specs.Token.Value.{refused}
 use Rattle.numbers.specs.Answers.{number_of}
 use Rattle.hasm_tokens.specs.Values.{token_answer}
 
@@ -23,11 +25,20 @@ unfolding number_or
 number_answer f (is n) = refl
 number_answer f bad = refl
 
-number_read : (f : OperandFault) (p : Parsed) {m : Option ℕ} {v : Result ℕ OperandFault} → m ≡ number_of p → v ≡ ok_or m f → v ≡ token_answer (number_or f p)
+pub number_read : (f : OperandFault) (p : Parsed) {m : Option ℕ} {v : Result ℕ OperandFault} → m ≡ number_of p → v ≡ ok_or m f → v ≡ token_answer (number_or f p)
 number_read f p e q = q ∙ rw e (number_answer f p)
 
+-- a register: an empty token, no mark, and a mark
+pub register_none : (t : List ℕ) → length t ≡ 0 → register_value t ≡ refused fault.Register
+unfolding register_value
+register_none [] h = refl
+register_none (b ∷ s) h = absurd (omega arith)
+
 module _ (t : List ℕ) where
-  -- a register's mark and a number
+  pub register_not : either (eqb (get_or t 0 0) 114) (eqb (get_or t 0 0) 82) ≡ false → register_value t ≡ refused fault.Register
+  unfolding register_value
+  register_not e = rw e
+
   pub register_is : {m : Option ℕ} {v : Result ℕ OperandFault} → either (eqb (get_or t 0 0) 114) (eqb (get_or t 0 0) 82) ≡ true
       → m ≡ number_of (parse_u32 (take (length t - 1) (drop 1 t))) → v ≡ ok_or m fault.Register → v ≡ token_answer (register_value t)
   unfolding register_value

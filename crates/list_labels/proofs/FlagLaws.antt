@@ -44,6 +44,14 @@ module _ (k : List ℕ) (i x : ℕ) where
       go true = refl
       go false = refl
 
+-- whether an offset is a label, by a mark of 1 or 0
+module _ (v : ℕ) (p : Bool) (e : v ≡ pick p 1 0) where
+  pub was_there : (v ≡ 0 → ⊥) → p ≡ true
+  was_there h = by_test p (λ q. q) (λ q. absurd (h (e ∙ rw q)))
+
+  pub was_not : v ≡ 0 → p ≡ false
+  was_not h = by_test p (λ q. absurd (let z : ◌≡◌ {A = ℕ} 1 0 = sym (e ∙ rw q) ∙ h in omega arith)) (λ q. q)
+
 -- the flags
 module _ (k : List ℕ) (n : Notes) (x : ℕ) (m : Flagged k n.flags) where
   marked_new : x < length n.flags → Flagged (k ++ (x ∷ [])) (set n.flags x true)

@@ -1,13 +1,13 @@
 -- What the rows of opcodes say. Assumes nothing.
 use mathlib.Core.Path.{◌≡◌, refl, sym, ◌∙◌}
-use mathlib.Core.Bool.{Bool, true, false, not}
+use mathlib.Core.Bool.{Bool, true, false, not, ◌||◌}
 use mathlib.Core.List.{List, [], ◌∷◌, append-nil}
 use Prim.Native.Nat.{ℕ, ◌+◌, ◌≤◌, ◌<◌}
 use native.Mathlib.Numerals.{add-one}
 use native.Mathlib.Omega.{arith}
 use borrow.Author.Tests.{eq-eqb, ne_eqb, eqb-true}
 use lib.Dec.{eqb}
-use lib.ListN.{length, get_or, set, drop, length-set}
+use lib.ListN.{length, get_or, set, drop, length-set, drop_of_length-le}
 use lib.Seq.{drop-cons}
 use Rattle.lists.specs.Choice.{pick, both, either}
 use Rattle.lists.proofs.Tests.{by_eqb, both_left, both_right, not-true}
@@ -31,6 +31,21 @@ use Rattle.list_labels.specs.InstructionNotes.{target_in}
 use Rattle.list_labels.proofs.TargetLaws.{targets_first}
 use Rattle.numbers.proofs.ByteSums.{le_one}
 use lib.Seq.{get_or-set_same, get_or-set_other}
+
+-- type codes, where none of those in front of i is an Addr
+module _ (codes : List ℕ) (i : ℕ) {b : Bool} (g : b ≡ has_addr (drop i codes)) where
+  module _ (h : i < length codes) where
+    here : b ≡ (eqb (family_of (get_or codes i 0)) 4 || has_addr (drop (i + 1) codes))
+    here = g ∙ rw (drop-cons codes i 0 h, add-one i)
+
+    pub addr_here : family_of (get_or codes i 0) ≡ 4 → b ≡ true
+    addr_here e = here ∙ rw (eq-eqb (family_of (get_or codes i 0)) 4 e)
+
+    pub addr_further : (family_of (get_or codes i 0) ≡ 4 → ⊥) → b ≡ has_addr (drop (i + 1) codes)
+    addr_further e = here ∙ rw (ne_eqb (family_of (get_or codes i 0)) 4 e)
+
+  pub addr_none : length codes ≤ i → b ≡ false
+  addr_none h = g ∙ rw (drop_of_length-le codes h)
 
 -- the rows of the opcodes below n are made
 pub record Made (sheet : List ℕ) (types infos : List (List ℕ)) (rows : List OpcodeRow) (n : ℕ) : Type 0 where

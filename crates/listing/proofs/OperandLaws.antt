@@ -13,7 +13,7 @@ use Rattle.lists.specs.Scan.{part}
 use Rattle.lists.proofs.Tests.{by_leb, by_eqb, both_left, both_right, true_not_false}
 use Rattle.spec_numbers.specs.Print.{decimal}
 use Rattle.spec_numbers.specs.Double.{print_double}
-use Rattle.spec_sheet.specs.Types.{widths, width_of, family_of}
+use Rattle.spec_sheet.specs.Types.{widths, width_of, family_of, string_family}
 use Rattle.spec_sheet.proofs.TypeLaws.{below, implies, by_codes}
 use Rattle.spec_strings.specs.Table.{text_of, entry_start, entry_end}
 use Rattle.spec_strings.specs.Escape.{quoted}
@@ -88,6 +88,17 @@ unsigned_other Str a b = refl
 unsigned_other Addr a b = absurd (a refl)
 unsigned_other Imm32 a b = absurd (b refl)
 unsigned_other Double a b = refl
+
+-- of all but a Double those with a sign are behind the strings
+pub signed_behind : (f : Family) → (f ≡ Double → ⊥) → signed_family (family_number f) ≡ ltb string_family (family_number f)
+unfolding family_number
+signed_behind NoOperand a = refl
+signed_behind Reg a = refl
+signed_behind UInt a = refl
+signed_behind Str a = refl
+signed_behind Addr a = refl
+signed_behind Imm32 a = refl
+signed_behind Double a = absurd (a refl)
 
 pub no_addr : (f : Family) → (f ≡ Addr → ⊥) → eqb (family_number f) 4 ≡ false
 unfolding family_number

@@ -1,9 +1,9 @@
 -- Numbers as they are listed, by their family: what stands in front, and the number with its sign. Assumes nothing.
-use Rattle.std.specs.Prelude.{List, [], ◌∷◌, ℕ, Bool, eqb}
+use Rattle.std.specs.Prelude.{List, [], ◌∷◌, ℕ, Bool, eqb, ltb}
 use Rattle.lists.specs.Choice.{pick, either}
 use Rattle.spec_numbers.specs.Print.{decimal, signed_decimal}
 use Rattle.spec_numbers.specs.TwosComplement.{signed}
-use Rattle.spec_sheet.specs.Types.{reg_family, addr_family, imm32_family}
+use Rattle.spec_sheet.specs.Types.{reg_family, string_family, addr_family, imm32_family}
 
 -- r for a register, L for a target
 unfoldable pub front_text : ℕ → List ℕ
@@ -13,5 +13,6 @@ front_text family = pick (eqb family reg_family) (114 ∷ []) (pick (eqb family 
 abbrev pub signed_family : ℕ → Bool
 signed_family family = either (eqb family addr_family) (eqb family imm32_family)
 
+-- those of these families, which are behind the strings'; a Double's bits are not listed so
 unfoldable pub value_text : ℕ → ℕ → List ℕ
-value_text family n = pick (signed_family family) (signed_decimal (signed 32 n)) (decimal n)
+value_text family n = pick (ltb string_family family) (signed_decimal (signed 32 n)) (decimal n)

@@ -64,9 +64,10 @@ fn is_signed(family: Family) -> bool
     }
 }
 
-// Writes a number of a family with what stands in front of it, by the same steps whatever the family, since a branch costs more.
+// Writes a number of a family with what stands in front of it, by the same steps whatever the family, since a branch costs more. A
+// Double is no such number.
 fn put_number(out: &mut [u8], k: usize, family: Family, n: u64) -> usize
-    requires { n < 4294967296 }
+    requires { (n < 4294967296) × (family ≡ Family.Double → ⊥) }
     ensures { ByWords out.old k (front_text (family_number family) ++ value_text (family_number family) n) out.new result }
 {
     let a = put_word(out, k, front_size(family), front_byte(family));

@@ -30,7 +30,7 @@ number_of-requires c =
     (c.requires.0, e, c.requires.1, short_bits a.code a.bits l c.requires.1)
 
 pub put_number-requires : goal.put_number-requires
-put_number-requires c = c.number_of.ensures.1
+put_number-requires c = (c.number_of.ensures.1, c.in_default.not-Double)
 
 pub returns-in_default : goal.returns-in_default
 returns-in_default c =

@@ -1,7 +1,7 @@
 -- What the rows of opcodes say. Assumes nothing.
 use mathlib.Core.Path.{◌≡◌, refl, sym, ◌∙◌}
 use mathlib.Core.Bool.{Bool, true, false, not, ◌||◌}
-use mathlib.Core.List.{List, [], ◌∷◌, append-nil}
+use mathlib.Core.List.{List, [], ◌∷◌, ◌++◌, append-nil}
 use Prim.Native.Nat.{ℕ, ◌+◌, ◌≤◌, ◌<◌}
 use native.Mathlib.Numerals.{add-one}
 use native.Mathlib.Omega.{arith}
@@ -26,7 +26,7 @@ use Rattle.spec_listing.specs.Labels.{ends_flow, targets, labels_of, label_offse
 use Rattle.list_labels.specs.FlowNames.{name_shown}
 use Rattle.list_labels.specs.declared.opcode_rows.Jump.TheVariants.{NoTarget, Short, Other}
 use Rattle.list_labels.specs.declared.opcode_rows.OpcodeRow.{OpcodeRow}
-use Rattle.list_labels.specs.OpcodeRows.{has_addr, is_short, targets_by, no_row, opcode_row, OpcodeRows, RowsFit, opcodes_of, record_labels, row_labels}
+use Rattle.list_labels.specs.OpcodeRows.{has_addr, is_short, targets_by, labels_by, row_in, RowFits, no_row, opcode_row, OpcodeRows, RowsFit, opcodes_of, record_labels, row_labels}
 use Rattle.list_labels.specs.InstructionNotes.{target_in}
 use Rattle.list_labels.proofs.TargetLaws.{targets_first}
 use Rattle.numbers.proofs.ByteSums.{le_one}
@@ -65,6 +65,23 @@ module _ {sheet : List ℕ} {types infos : List (List ℕ)} {rows : List OpcodeR
   -- a table of all rows up to the largest opcode
   pub rows_made : (last : ℕ) → ((o : ℕ) → o < 256 → o ≤ last → o < n) → OpcodeRows sheet types infos last rows
   rows_made last h o l k = g.made o (h o l k)
+
+-- what a row that three bytes hold says of labels, and whether it fits
+in_bytes : (p q : Bool) (l : List ℕ) → targets_by (pick p NoTarget (pick q Short Other)) l ≡ pick p [] l
+in_bytes true q l = refl
+in_bytes false true l = refl
+in_bytes false false l = refl
+
+pub bytes_labels : (bytes targets : List ℕ) (next : ℕ) → labels_by (row_in bytes) next targets ≡ pick (eqb (get_or bytes 1 0) 1) (next ∷ []) [] ++ pick (eqb (get_or bytes 2 0) 0) [] targets
+bytes_labels bytes targets next = rw (in_bytes (eqb (get_or bytes 2 0) 0) (eqb (get_or bytes 2 0) 1) targets)
+
+short_in : (p q : Bool) → pick p NoTarget (pick q Short Other) ≡ Short → q ≡ true
+short_in true q e = cc e
+short_in false true e = refl
+short_in false false e = cc e
+
+pub bytes_fit : (codes bytes : List ℕ) → get_or bytes 0 0 ≡ length_of codes → (get_or bytes 2 0 ≡ 1 → is_short codes ≡ true) → RowFits codes (row_in bytes)
+bytes_fit codes bytes l s = record { size = l; short = λ e. s (eqb-true (get_or bytes 2 0) 1 (short_in (eqb (get_or bytes 2 0) 0) (eqb (get_or bytes 2 0) 1) e)) }
 
 short_kind : (p q : Bool) → pick p (pick q Short Other) NoTarget ≡ Short → q ≡ true
 short_kind true true e = refl

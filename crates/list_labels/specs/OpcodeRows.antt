@@ -39,6 +39,14 @@ abbrev pub opcode_row : List ℕ → List ℕ → List ℕ → OpcodeRow
 opcode_row sheet codes info =
     record { size = length_of codes; ends_flow = ends_flow (name_shown sheet (name_start info) (name_size info)); jump = jump_of (jump_mark info) codes }
 
+-- a row that three bytes hold: the length, 1 where the name ends the flow, and 0 where there are no targets, 1 for a short jump, else
+-- any other
+abbrev pub jump_in : ℕ → Jump
+jump_in kind = pick (eqb kind 0) NoTarget (pick (eqb kind 1) Short Other)
+
+abbrev pub row_in : List ℕ → OpcodeRow
+row_in bytes = record { size = get_or bytes 0 0; ends_flow = eqb (get_or bytes 1 0) 1; jump = jump_in (get_or bytes 2 0) }
+
 -- that of no opcode
 abbrev pub no_row : OpcodeRow
 no_row = record { size = 0; ends_flow = false; jump = NoTarget }

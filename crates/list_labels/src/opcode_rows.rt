@@ -2,7 +2,7 @@
 // and the walk for labels looks at operands only where they are a jump's.
 ghost use Rattle.std.specs.Prelude.{◌≡◌, eqb};
 ghost use Rattle.lists.specs.Choice.{both};
-ghost use Rattle.list_labels.specs.OpcodeRows.{has_addr, is_short, is_short_jump, is_other_jump, jump_of, opcode_row, OpcodeRows};
+ghost use Rattle.list_labels.specs.OpcodeRows.{has_addr, is_short, is_short_jump, is_other_jump, jump_of, jump_in, row_in, opcode_row, OpcodeRows};
 
 use crate::target::is_addr;
 use sheet::operand_types::ADDR8;
@@ -38,6 +38,32 @@ pub struct OpcodeRow {
     pub size: u8,
     pub ends_flow: bool,
     pub jump: Jump,
+}
+
+// The kind of jump that a byte stands for.
+#[tactic(auto, using(std::proofs::lemmas::Bool::Decides::nat_tests))]
+fn jump_in(kind: u8) -> Jump
+    ensures { result ≡ jump_in kind }
+{
+    match kind {
+        0 => Jump::NoTarget,
+        1 => Jump::Short,
+        _ => Jump::Other,
+    }
+}
+
+// A row that three bytes hold: the length, 1 where it ends the flow, and the kind of jump: 0 for no target, 1 for a short jump, else
+// any other.
+impl From<[u8; 3]> for OpcodeRow {
+    ghost from_gives = { λ x r. r ≡ row_in x };
+
+    fn from(bytes: [u8; 3]) -> OpcodeRow {
+        OpcodeRow {
+            size: bytes[0],
+            ends_flow: bytes[1] == 1,
+            jump: jump_in(bytes[2]),
+        }
+    }
 }
 
 // Whether an operand of these types is an Addr.

@@ -9,7 +9,7 @@ ghost use Rattle.spec_hasm.specs.Operation as operation;
 ghost use Rattle.assemble.specs.Passes.{IdSpace};
 
 use crate::passes::put_text;
-use answers::failure::Answer;
+use answers::failure::{Answer, Failure};
 use answers::refusal::Refusal;
 use hasm_labels::label_entry::Slot;
 use operation::ending::settle;
@@ -20,7 +20,8 @@ use slices::space::with_words;
 use strings::table::StringTable;
 use strings::text_index::{ALL_INDEX, FEW_INDEX, SOME_INDEX};
 
-// Assembles a text under a sheet given as text and a string table. A label entry is lent for each label that is taken.
+// Assembles a text under a sheet given as text and a string table. A label entry is lent for each label that is taken, and all are clear
+// behind it.
 fn assemble_given(
     sheet: &[u8],
     strings: StringTable<'_>,
@@ -28,14 +29,19 @@ fn assemble_given(
     out: &mut [u8],
     labels: &mut [Slot],
 ) -> Answer
-    ensures { Ended (operation.assemble sheet.now strings.entry.bytes.now strings.entry.ends.now text.now) out.old (length labels.old ∷ []) (left_by result out.new) (answer_report result) }
+    ensures ended { Ended (operation.assemble sheet.now strings.entry.bytes.now strings.entry.ends.now text.now) out.old (length labels.old ∷ []) (left_by result out.new) (answer_report result) }
+    ensures labels_after { labels.new ≡ cleared (0 ∷ 0 ∷ 0 ∷ []) labels.old }
 {
     if limits::TEXT_LIMIT < text.len() {
-        return Err(Refusal::TooLarge.into());
+        clear(labels, [0, 0, 0]);
+        return Err(Failure::Refused(Refusal::TooLarge));
     }
     let mut types = [[0u8; 8]; 256];
     let mut ops = [[0usize; 4]; 256];
-    read_inputs(sheet, strings, &mut types, &mut ops)?;
+    if let Err(x) = read_inputs(sheet, strings, &mut types, &mut ops) {
+        clear(labels, [0, 0, 0]);
+        return Err(Failure::Refused(x));
+    }
     let tables = Tables {
         text: sheet,
         types: &types,
@@ -47,7 +53,7 @@ fn assemble_given(
     with_words::<FEW_INDEX, SOME_INDEX, ALL_INDEX, _, _>(strings.index_size(), &mut put)
 }
 
-// The same, after which the label entries are clear, and so is the output where there is no result.
+// The same, after which the output is clear too where there is no result.
 pub fn assemble(
     sheet: &[u8],
     strings: StringTable<'_>,
@@ -60,6 +66,5 @@ pub fn assemble(
 {
     let answer = assemble_given(sheet, strings, text, out, labels);
     settle(answer, out);
-    clear(labels, [0, 0, 0]);
     answer
 }

@@ -12,7 +12,7 @@ ghost use Rattle.hasm_labels.specs.Sources.{context_of};
 ghost use Rattle.assemble.specs.Contexts.{tables_context};
 ghost use Rattle.assemble.specs.Passes.{text_outcome, IdSpace, IdsLeft, NamesGood};
 
-use answers::failure::Answer;
+use answers::failure::{Answer, Failure};
 use hasm_labels::label_entry::Slot;
 use hasm_labels::names_pass::{Taken, read_names};
 use hasm_labels::source::Source;
@@ -47,7 +47,8 @@ fn put_indexed(
     measure(k, limits::BODY_LIMIT, taken.count, slots.len(), out)
 }
 
-// Reads the names of a text whose lines are good, which stores the long labels that fit, then writes its instructions.
+// Reads the names of a text whose lines are good, which stores the long labels that fit, then writes its instructions. A name that is
+// refused has cleared the label entries.
 fn name_and_put(
     ids: &mut [u32],
     tables: Tables<'_>,
@@ -59,6 +60,7 @@ fn name_and_put(
     requires id_space { IdSpace ids.old strings.ends.now × (length text.now ≤ text_limit) }
     requires rest_value { (rest : Assembled) → unless_bad_line 1 (lines_of text.now) rest ≡ rest }
     ensures ended { Ended (text_outcome (tables_context tables.entry strings.entry.bytes.now strings.entry.ends.now) text.now) out.old (length labels.old ∷ []) (left_by result out.new) (answer_report result) }
+    ensures labels_after { labels.new ≡ cleared (0 ∷ 0 ∷ 0 ∷ []) labels.old }
     ensures ids_left { IdsLeft strings.entry.bytes.now strings.entry.ends.now ids.old ids.new }
 {
     let mut names = zeroed::<u32, NAME_INDEX>(0);
@@ -68,12 +70,17 @@ fn name_and_put(
         tables,
         names: &names,
     };
-    let taken = read_names(source, labels, b"L", &mut [], 0)?;
-    put_indexed(ids, source, strings, taken, labels, out)
+    match read_names(source, labels, b"L", &mut [], 0) {
+        Ok(taken) => {
+            let answer = put_indexed(ids, source, strings, taken, labels, out);
+            clear(labels, [0, 0, 0]);
+            answer
+        }
+        Err(x) => Err(Failure::Refused(x)),
+    }
 }
 
-// Assembles a text under the tables of a sheet. Where there is no result, the output still has to be cleared, and the label entries
-// have in any case.
+// Assembles a text under the tables of a sheet. Where there is no result, the output still has to be cleared.
 pub(crate) fn put_text(
     ids: &mut [u32],
     tables: Tables<'_>,
@@ -84,9 +91,13 @@ pub(crate) fn put_text(
 ) -> Answer
     requires { IdSpace ids.old strings.ends.now × (length text.now ≤ text_limit) }
     ensures ended { Ended (text_outcome (tables_context tables.entry strings.entry.bytes.now strings.entry.ends.now) text.now) out.old (length labels.old ∷ []) (left_by result out.new) (answer_report result) }
+    ensures labels_after { labels.new ≡ cleared (0 ∷ 0 ∷ 0 ∷ []) labels.old }
     ensures ids_left { IdsLeft strings.entry.bytes.now strings.entry.ends.now ids.old ids.new }
 {
-    hasm_read::lines::check_lines(text)?;
+    if let Err(x) = hasm_read::lines::check_lines(text) {
+        clear(labels, [0, 0, 0]);
+        return Err(Failure::Refused(x));
+    }
     name_and_put(ids, tables, strings, text, out, labels)
 }
 
@@ -107,6 +118,5 @@ pub fn assemble_under(
 {
     let answer = put_text(ids, tables, strings, text, out, labels);
     settle(answer, out);
-    clear(labels, [0, 0, 0]);
     answer
 }

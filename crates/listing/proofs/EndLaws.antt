@@ -10,6 +10,7 @@ use Rattle.lists.proofs.Tests.{by_leb}
 use Rattle.list_labels.specs.Collecting.{EntriesFor}
 use Rattle.lists.specs.Write.{Put}
 use Rattle.limits.specs.Limits.{listing_limit}
+use Rattle.answers.specs.Report.{zeros}
 use Rattle.answers.specs.Answers.{answer_report}
 use Rattle.answers.specs.Outcome.{Outcome, measured, Ended}
 use Rattle.answers.specs.Outcome.Outcome.{refused_with}
@@ -71,3 +72,7 @@ pub stopped_end : {x : Listed} {f : Refusal} {r : Result ℕ Failure} (before no
     → Ended (list_outcome x) before (lent ∷ []) (left_by r now) (answer_report r)
 unfolding list_outcome
 stopped_end before now lent e q h = refused_out before now _ (rw e refl) q h
+
+-- and one that left the output clear
+pub cleared_end : {x : Outcome} {f : Refusal} {r : Result ℕ Failure} (before after entries : List ℕ) → x ≡ refused_with f → r ≡ Err (Refused f) → after ≡ zeros before → Ended x before entries after (answer_report r)
+cleared_end {x} {f} before after entries e q z = rw q (refused_end x f before entries after _ e refl z)

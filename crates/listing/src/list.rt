@@ -8,22 +8,31 @@ ghost use Rattle.spec_listing.specs.Operation.{list_outcome};
 ghost use Rattle.listing.specs.Parts.{options_of};
 ghost use Rattle.spec_inputs.specs.Context.{context_from};
 ghost use Rattle.answers.specs.Answers.{answer_report};
-ghost use Rattle.answers.specs.Report.{cleared};
+ghost use Rattle.answers.specs.declared.failure.Failure.TheVariants.{Refused};
+ghost use Rattle.answers.specs.Report.{cleared, zeros};
 ghost use Rattle.answers.specs.Outcome.{Ended};
-ghost use Rattle.operation.specs.Ends.{left_by};
 
 use crate::body::Room;
 use crate::lister::Lister;
 use crate::options::Options;
 use answers::failure::{Answer, Failure};
 use answers::refusal::Refusal;
-use operation::ending::settle;
+use operation::inputs::read_inputs;
 use sheet::tables::Tables;
 use slices::clearing::clear;
 use strings::table::StringTable;
 
-// Lists a body under a sheet's tables. The output is left to settle.
-pub(crate) fn list_read(
+// Refuses what is not listed at all, which leaves the output all zero.
+pub(crate) fn refuse(x: Refusal, out: &mut [u8]) -> Answer
+    ensures value { result ≡ Err (Refused x) }
+    ensures out_after { out.new ≡ zeros out.old }
+{
+    clear(out, 0);
+    Err(Failure::Refused(x))
+}
+
+// Lists a body under a sheet's tables, whose names are parts of their text. A body that is refused has cleared the output.
+pub fn list_under(
     options: Options,
     tables: Tables<'_>,
     last: usize,
@@ -33,7 +42,7 @@ pub(crate) fn list_read(
     out: &mut [u8],
 ) -> Answer
     requires { length s.now ≤ body_limit }
-    ensures { Ended (list_outcome (list_decoded (options_of options) (context_from tables.entry.text.now tables.entry.types.now tables.entry.ops.now strings.entry.bytes.now strings.entry.ends.now) [] (decode_body tables.entry.types.now last s.now))) out.old (lent ∷ []) (left_by result out.new) (answer_report result) }
+    ensures { Ended (list_outcome (list_decoded (options_of options) (context_from tables.entry.text.now tables.entry.types.now tables.entry.ops.now strings.entry.bytes.now strings.entry.ends.now) [] (decode_body tables.entry.types.now last s.now))) out.old (lent ∷ []) out.new (answer_report result) }
 {
     let rows = list_labels::opcode_rows::opcode_rows(tables, last);
     let lister = Lister {
@@ -47,25 +56,7 @@ pub(crate) fn list_read(
     operation::ending::measure(part.next, limits::LISTING_LIMIT, part.entries, lent, out)
 }
 
-// Lists a body under a sheet's tables, whose names are parts of their text.
-pub fn list_under(
-    options: Options,
-    tables: Tables<'_>,
-    last: usize,
-    strings: StringTable<'_>,
-    s: &[u8],
-    lent: usize,
-    out: &mut [u8],
-) -> Answer
-    requires { length s.now ≤ body_limit }
-    ensures { Ended (list_outcome (list_decoded (options_of options) (context_from tables.entry.text.now tables.entry.types.now tables.entry.ops.now strings.entry.bytes.now strings.entry.ends.now) [] (decode_body tables.entry.types.now last s.now))) out.old (lent ∷ []) out.new (answer_report result) }
-{
-    let answer = list_read(options, tables, last, strings, s, lent, out);
-    settle(answer, out);
-    answer
-}
-
-// Reads the sheet and lists a body: 18 of the body, then the inputs' refusals. The output is left to settle.
+// Reads the sheet and lists a body: 18 of the body, then the inputs' refusals.
 fn list_given(
     options: Options,
     sheet: &[u8],
@@ -74,20 +65,24 @@ fn list_given(
     lent: usize,
     out: &mut [u8],
 ) -> Answer
-    ensures { Ended (operation.list (options_of options) sheet.now strings.entry.bytes.now strings.entry.ends.now body.now) out.old (lent ∷ []) (left_by result out.new) (answer_report result) }
+    ensures { Ended (operation.list (options_of options) sheet.now strings.entry.bytes.now strings.entry.ends.now body.now) out.old (lent ∷ []) out.new (answer_report result) }
 {
     if limits::BODY_LIMIT < body.len() {
-        return Err(Failure::Refused(Refusal::TooLarge));
+        return refuse(Refusal::TooLarge, out);
     }
     let mut types = [[0u8; 8]; 256];
     let mut ops = [[0usize; 4]; 256];
-    let last = operation::inputs::read_inputs(sheet, strings, &mut types, &mut ops)?;
-    let tables = Tables {
-        text: sheet,
-        types: &types,
-        ops: &ops,
-    };
-    list_read(options, tables, last, strings, body, lent, out)
+    match read_inputs(sheet, strings, &mut types, &mut ops) {
+        Ok(last) => {
+            let tables = Tables {
+                text: sheet,
+                types: &types,
+                ops: &ops,
+            };
+            list_under(options, tables, last, strings, body, lent, out)
+        }
+        Err(x) => refuse(x, out),
+    }
 }
 
 // Lists a body under a sheet given as text and a string table.
@@ -103,7 +98,5 @@ pub fn list(
     ensures entries_after { entries.new ≡ cleared 0 entries.old }
 {
     clear(entries, 0);
-    let answer = list_given(options, sheet, strings, body, entries.len(), out);
-    settle(answer, out);
-    answer
+    list_given(options, sheet, strings, body, entries.len(), out)
 }

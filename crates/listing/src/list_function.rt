@@ -5,20 +5,20 @@ ghost use Rattle.answers.specs.Report.{cleared};
 ghost use Rattle.answers.specs.Outcome.{Ended};
 ghost use Rattle.spec_inputs.specs.Context.{context_from};
 ghost use Rattle.spec_listing.specs.Operation as operation;
-ghost use Rattle.operation.specs.Ends.{left_by};
 ghost use Rattle.operation.specs.Places.{located_of};
 ghost use Rattle.listing.specs.Parts.{options_of};
 ghost use Rattle.listing.specs.Functions.{area_of, function_under};
 
+use crate::list::{list_under, refuse};
 use crate::options::Options;
 use answers::failure::Answer;
 use operation::area::Area;
-use operation::ending::settle;
+use operation::inputs::read_inputs;
 use sheet::tables::Tables;
 use slices::clearing::clear;
 use strings::table::StringTable;
 
-// Lists a function under a sheet's tables: 20 and 18 of its body, then as a body. The output is left to settle.
+// Lists a function under a sheet's tables: 20 and 18 of its body, then as a body.
 fn function_under(
     options: Options,
     tables: Tables<'_>,
@@ -29,14 +29,18 @@ fn function_under(
     lent: usize,
     out: &mut [u8],
 ) -> Answer
-    ensures { Ended (function_under (options_of options) area.entry.bytes.now (located_of area.entry.functions.now area.entry.bytes.now area.entry.base id) (context_from tables.entry.text.now tables.entry.types.now tables.entry.ops.now strings.entry.bytes.now strings.entry.ends.now) last) out.old (lent ∷ []) (left_by result out.new) (answer_report result) }
+    ensures { Ended (function_under (options_of options) area.entry.bytes.now (located_of area.entry.functions.now area.entry.bytes.now area.entry.base id) (context_from tables.entry.text.now tables.entry.types.now tables.entry.ops.now strings.entry.bytes.now strings.entry.ends.now) last) out.old (lent ∷ []) out.new (answer_report result) }
 {
-    let f = area.locate(id)?;
-    let body = slices::part::part_of(area.bytes, f.start, f.size);
-    crate::list::list_read(options, tables, last, strings, body, lent, out)
+    match area.locate(id) {
+        Ok(f) => {
+            let body = slices::part::part_of(area.bytes, f.start, f.size);
+            list_under(options, tables, last, strings, body, lent, out)
+        }
+        Err(x) => refuse(x, out),
+    }
 }
 
-// Reads the sheet and lists a function. The output is left to settle.
+// Reads the sheet and lists a function.
 fn function_given(
     options: Options,
     sheet: &[u8],
@@ -46,17 +50,21 @@ fn function_given(
     lent: usize,
     out: &mut [u8],
 ) -> Answer
-    ensures { Ended (operation.list_function (options_of options) sheet.now strings.entry.bytes.now strings.entry.ends.now (area_of area.entry.functions.now area.entry.bytes.now area.entry.base) id) out.old (lent ∷ []) (left_by result out.new) (answer_report result) }
+    ensures { Ended (operation.list_function (options_of options) sheet.now strings.entry.bytes.now strings.entry.ends.now (area_of area.entry.functions.now area.entry.bytes.now area.entry.base) id) out.old (lent ∷ []) out.new (answer_report result) }
 {
     let mut types = [[0u8; 8]; 256];
     let mut ops = [[0usize; 4]; 256];
-    let last = operation::inputs::read_inputs(sheet, strings, &mut types, &mut ops)?;
-    let tables = Tables {
-        text: sheet,
-        types: &types,
-        ops: &ops,
-    };
-    function_under(options, tables, last, strings, area, id, lent, out)
+    match read_inputs(sheet, strings, &mut types, &mut ops) {
+        Ok(last) => {
+            let tables = Tables {
+                text: sheet,
+                types: &types,
+                ops: &ops,
+            };
+            function_under(options, tables, last, strings, area, id, lent, out)
+        }
+        Err(x) => refuse(x, out),
+    }
 }
 
 // Lists one function of an area.
@@ -73,7 +81,5 @@ pub fn list_function(
     ensures entries_after { entries.new ≡ cleared 0 entries.old }
 {
     clear(entries, 0);
-    let answer = function_given(options, sheet, strings, area, id, entries.len(), out);
-    settle(answer, out);
-    answer
+    function_given(options, sheet, strings, area, id, entries.len(), out)
 }

@@ -1,4 +1,5 @@
 -- An operand by the read of its kind. Assumes nothing.
+use Rattle.std.specs.Prelude.{Option, IsSome}
 use Rattle.std.proofs.Common.{◌≡◌, ℕ, ◌+◌, ◌^◌, ◌≤◌, ◌<◌, List, ℤ, Some, refl, sym, ap, ◌∙◌, arith, length, get_or, eqb, le-leb, eq-eqb}
 use native.Mathlib.Nat.{mod-eq_of_lt}
 use lib.ListN.{get_or-eq_default}
@@ -51,6 +52,11 @@ module _ (code : ℕ) (s : List ℕ) (at : ℕ) (room : at + width_of code ≤ l
 -- an operand of kind k takes the w bytes of its kind
 pub kind_room : (code at k w n : ℕ) → at + width_of code ≤ n → (width_of code ≡ 0 → ⊥) → kind_of code ≡ k → get_or kind_widths k 0 ≡ w → at + w ≤ n
 kind_room code at k w n room some kind few = omega (arith, kind_bytes code some ∙ (ap (λ (j : ℕ). get_or kind_widths j 0) kind ∙ few))
+
+-- so a read of them finds them
+pub kind_read : {A : Type 0} (code at k w : ℕ) (number : ℕ → A) (s : List ℕ) → at + width_of code ≤ length s → (width_of code ≡ 0 → ⊥) → kind_of code ≡ k → get_or kind_widths k 0 ≡ w
+    → (o : Option (Read A)) → o ≡ read_at w number s at → IsSome o
+kind_read code at k w number s room some kind few o e = rw (e, le-leb (at + w) (length s) (kind_room code at k w (length s) room some kind few))
 
 -- which are there, and are read as the number that makes its value
 module _ (code : ℕ) (s : List ℕ) (at : ℕ) (room : at + width_of code ≤ length s) (bytes : (i : ℕ) → get_or s i 0 < 256) (some : width_of code ≡ 0 → ⊥) where

@@ -3,19 +3,10 @@ ghost use Rattle.std.specs.Prelude.{◌≡◌, ◌+◌, ◌^◌, ◌≤◌, ◌<
 ghost use Rattle.lists.specs.Scan.{part};
 ghost use Rattle.spec_numbers.specs.LittleEndian.{le};
 ghost use Rattle.spec_sheet.specs.Types.{width_of};
-ghost use Rattle.operand.specs.Reader.{read_at};
 ghost use Rattle.operand.specs.Value.{operand_at};
 
-use crate::reader::{ByteReader, Number, Read};
+use crate::reader;
 use crate::value::{Operand, OperandValue};
-
-// A number of a body whose bytes are there.
-fn number_at<T: Number>(s: &[u8], at: usize) -> Read<T>
-    requires { at + T.WIDTH ≤ length s.now }
-    ensures { Some result ≡ read_at T.WIDTH T.number s.now at }
-{
-    ByteReader::from(s, at).read().unwrap()
-}
 
 // An operand that is no double, of which nothing stands beside the value.
 fn without_bits(value: OperandValue, next: usize) -> Operand
@@ -38,27 +29,27 @@ pub fn read_operand(code: u8, s: &[u8], at: usize) -> Operand
     }
     match sheet::operand_types::kind(code) {
         0 => {
-            let r = number_at(s, at);
+            let r = reader::u8_of(s, at).unwrap();
             without_bits(OperandValue::U8(r.value), r.next)
         }
         1 => {
-            let r = number_at(s, at);
+            let r = reader::u16_of(s, at).unwrap();
             without_bits(OperandValue::U16(r.value), r.next)
         }
         2 => {
-            let r = number_at(s, at);
+            let r = reader::u32_of(s, at).unwrap();
             without_bits(OperandValue::U32(r.value), r.next)
         }
         3 => {
-            let r = number_at(s, at);
+            let r = reader::i8_of(s, at).unwrap();
             without_bits(OperandValue::I8(r.value), r.next)
         }
         4 => {
-            let r = number_at(s, at);
+            let r = reader::i32_of(s, at).unwrap();
             without_bits(OperandValue::I32(r.value), r.next)
         }
         _ => {
-            let r = number_at(s, at);
+            let r = reader::f64_of(s, at).unwrap();
             Operand {
                 value: OperandValue::F64(r.value),
                 bits: r.bits,

@@ -1,23 +1,30 @@
 -- Laws of the first comma outside quotes: at an index, and of the parts that it splits. Assumes nothing.
-use mathlib.Core.Path.{◌≡◌, refl}
-use Prim.Native.Nat.{ℕ, suc, ◌≤◌, ◌<◌}
+use mathlib.Core.Path.{◌≡◌, refl, ◌∙◌}
+use mathlib.Core.Bool.{true, false}
+use Prim.Native.Nat.{ℕ, suc, ◌+◌, ◌≤◌, ◌<◌}
+use native.Mathlib.Nat.{add-zero}
 use native.Mathlib.Omega.{arith}
 use mathlib.Core.List.{List, [], ◌∷◌}
 use borrow.Author.Tests.{eq-eqb, ne_eqb}
-use lib.ListN.{length, take, drop}
+use lib.Dec.{eqb}
+use lib.ListN.{length, take, drop, get_or}
+use lib.Seq.{get_or-drop}
 use Rattle.lists.proofs.Tests.{by_eqb}
 use Rattle.spec_hasm.specs.Text.{onto}
 use Rattle.spec_hasm.specs.Split.{split_outside, split_inside}
-use Rattle.hasm_read.specs.Commas.{comma_outside, comma_inside, comma_at}
+use Rattle.hasm_read.specs.Commas.{comma_outside, comma_inside, comma_at, is_comma}
+use Rattle.hasm_read.specs.Quotes.{quote_at}
+use Rattle.hasm_read.proofs.ScanLaws as scan
+use Rattle.hasm_read.proofs.ScanLaws.{comma_scan, comma_inside_scan}
 
 -- the clauses of the count and of the splitting, each by the byte that picks it
 module _ (b : ℕ) (s : List ℕ) where
   module _ (e : b ≡ 34) where
-    comma_cons_quote : comma_outside (b ∷ s) ≡ suc (comma_inside s)
+    pub comma_cons_quote : comma_outside (b ∷ s) ≡ suc (comma_inside s)
     unfolding comma_outside
     comma_cons_quote = rw (eq-eqb b 34 e, comma_outside)
 
-    inside_cons_quote : comma_inside (b ∷ s) ≡ suc (comma_outside s)
+    pub inside_cons_quote : comma_inside (b ∷ s) ≡ suc (comma_outside s)
     unfolding comma_inside
     inside_cons_quote = rw (eq-eqb b 34 e, comma_inside)
 
@@ -30,7 +37,7 @@ module _ (b : ℕ) (s : List ℕ) where
     quoted_cons_quote = rw (eq-eqb b 34 e, split_inside)
 
   module _ (n : b ≡ 34 → ⊥) where
-    inside_cons_go : comma_inside (b ∷ s) ≡ suc (comma_inside s)
+    pub inside_cons_go : comma_inside (b ∷ s) ≡ suc (comma_inside s)
     unfolding comma_inside
     inside_cons_go = rw (ne_eqb b 34 n, comma_inside)
 
@@ -38,7 +45,7 @@ module _ (b : ℕ) (s : List ℕ) where
     unfolding split_inside
     quoted_cons_go = rw (ne_eqb b 34 n, split_inside)
 
-    comma_cons_stop : b ≡ 44 → comma_outside (b ∷ s) ≡ 0
+    pub comma_cons_stop : b ≡ 44 → comma_outside (b ∷ s) ≡ 0
     unfolding comma_outside
     comma_cons_stop e = rw (ne_eqb b 34 n, eq-eqb b 44 e, comma_outside)
 
@@ -46,13 +53,42 @@ module _ (b : ℕ) (s : List ℕ) where
     unfolding split_outside
     split_cons_stop e = rw (ne_eqb b 34 n, eq-eqb b 44 e, split_outside)
 
-    comma_cons_go : (b ≡ 44 → ⊥) → comma_outside (b ∷ s) ≡ suc (comma_outside s)
+    pub comma_cons_go : (b ≡ 44 → ⊥) → comma_outside (b ∷ s) ≡ suc (comma_outside s)
     unfolding comma_outside
     comma_cons_go m = rw (ne_eqb b 34 n, ne_eqb b 44 m, comma_outside)
 
     split_cons_go : (b ≡ 44 → ⊥) → split_outside (b ∷ s) ≡ onto b (split_outside s)
     unfolding split_outside
     split_cons_go m = rw (ne_eqb b 34 n, ne_eqb b 44 m, split_outside)
+
+-- the steps of the scan for a comma
+module _ (s : List ℕ) (i : ℕ) where
+  pub comma_end : length s ≤ i → i + comma_at (drop i s) ≡ i
+  comma_end h = rw (comma_scan _ _) at (scan.outside_end false is_comma s i h)
+
+  pub inside_end : length s ≤ i → i + comma_inside (drop i s) ≡ i
+  inside_end h = rw (comma_inside_scan _ _) at (scan.inside_end false is_comma s i h)
+
+  next : is_comma (drop i s) ≡ eqb (get_or s i 0) 44
+  next = rw (get_or-drop i s 0 0, add-zero)
+
+  module _ (h : i < length s) where
+    module _ (e : quote_at false s i ≡ true) where
+      pub comma_quote : i + comma_at (drop i s) ≡ i + 1 + comma_inside (drop (i + 1) s)
+      comma_quote = rw (comma_scan _ _, comma_inside_scan _ _) at (scan.outside_quote false is_comma s i h e)
+
+      pub inside_quote : i + comma_inside (drop i s) ≡ i + 1 + comma_at (drop (i + 1) s)
+      inside_quote = rw (comma_scan _ _, comma_inside_scan _ _) at (scan.inside_quote false is_comma s i h e)
+
+    module _ (n : quote_at false s i ≡ false) where
+      pub comma_stop : get_or s i 0 ≡ 44 → i + comma_at (drop i s) ≡ i
+      comma_stop e = rw (comma_scan _ _) at (scan.outside_stop false is_comma s i h n (next ∙ eq-eqb _ 44 e))
+
+      pub comma_go : (get_or s i 0 ≡ 44 → ⊥) → i + comma_at (drop i s) ≡ i + 1 + comma_at (drop (i + 1) s)
+      comma_go m = rw (comma_scan _ _, comma_scan _ _) at (scan.outside_go false is_comma s i h n (next ∙ ne_eqb _ 44 m))
+
+      pub inside_go : i + comma_inside (drop i s) ≡ i + 1 + comma_inside (drop (i + 1) s)
+      inside_go = rw (comma_inside_scan _ _, comma_inside_scan _ _) at (scan.inside_go false is_comma s i h n)
 
 -- the parts l of a text s whose first comma outside quotes stands at k
 pub record Splits (s : List ℕ) (k : ℕ) (l : List (List ℕ)) : Type 0 where

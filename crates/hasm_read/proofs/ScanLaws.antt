@@ -18,23 +18,23 @@ before_next s i = rw (add-one i)
 module _ (e : Bool) (stop : List ℕ → Bool) where
   -- the clauses, each by the tests that pick it
   module _ (p b : ℕ) (s : List ℕ) where
-    outside_cons_quote : quote_by e p b ≡ true → outside_by e stop p (b ∷ s) ≡ suc (inside_by e stop b s)
+    pub outside_cons_quote : quote_by e p b ≡ true → outside_by e stop p (b ∷ s) ≡ suc (inside_by e stop b s)
     unfolding outside_by
     outside_cons_quote q = rw (q, outside_by)
 
-    outside_cons_stop : quote_by e p b ≡ false → stop (b ∷ s) ≡ true → outside_by e stop p (b ∷ s) ≡ 0
+    pub outside_cons_stop : quote_by e p b ≡ false → stop (b ∷ s) ≡ true → outside_by e stop p (b ∷ s) ≡ 0
     unfolding outside_by
     outside_cons_stop q f = rw (q, f, outside_by)
 
-    outside_cons_go : quote_by e p b ≡ false → stop (b ∷ s) ≡ false → outside_by e stop p (b ∷ s) ≡ suc (outside_by e stop b s)
+    pub outside_cons_go : quote_by e p b ≡ false → stop (b ∷ s) ≡ false → outside_by e stop p (b ∷ s) ≡ suc (outside_by e stop b s)
     unfolding outside_by
     outside_cons_go q f = rw (q, f, outside_by)
 
-    inside_cons_quote : quote_by e p b ≡ true → inside_by e stop p (b ∷ s) ≡ suc (outside_by e stop b s)
+    pub inside_cons_quote : quote_by e p b ≡ true → inside_by e stop p (b ∷ s) ≡ suc (outside_by e stop b s)
     unfolding inside_by
     inside_cons_quote q = rw (q, inside_by)
 
-    inside_cons_go : quote_by e p b ≡ false → inside_by e stop p (b ∷ s) ≡ suc (inside_by e stop b s)
+    pub inside_cons_go : quote_by e p b ≡ false → inside_by e stop p (b ∷ s) ≡ suc (inside_by e stop b s)
     unfolding inside_by
     inside_cons_go q = rw (q, inside_by)
 
@@ -73,6 +73,9 @@ comment_scans p (b ∷ s) = let h = comment_scans b s in rw (h.0, h.1) (refl, re
 pub comment_scan : (p : ℕ) (s : List ℕ) → outside_by true is_comment p s ≡ outside p s
 comment_scan p s = (comment_scans p s).0
 
+pub comment_inside_scan : (p : ℕ) (s : List ℕ) → inside_by true is_comment p s ≡ inside p s
+comment_inside_scan p s = (comment_scans p s).1
+
 pub comma_scans : (p : ℕ) (s : List ℕ) → (outside_by false is_comma p s ≡ comma_outside s) × (inside_by false is_comma p s ≡ comma_inside s)
 unfolding outside_by comma_outside
 comma_scans p [] = (refl, refl)
@@ -80,3 +83,6 @@ comma_scans p (b ∷ s) = let h = comma_scans b s in rw (h.0, h.1) (refl, refl)
 
 pub comma_scan : (p : ℕ) (s : List ℕ) → outside_by false is_comma p s ≡ comma_outside s
 comma_scan p s = (comma_scans p s).0
+
+pub comma_inside_scan : (p : ℕ) (s : List ℕ) → inside_by false is_comma p s ≡ comma_inside s
+comma_inside_scan p s = (comma_scans p s).1

@@ -22,13 +22,16 @@ impl Scan for Comments {
     }
 }
 
-// Whether two slashes stand at i.
+// Whether two slashes stand at i. Most bytes are none, so what follows is looked at only behind one.
 #[tactic(auto, using(crate::proofs::CommentLaws::comment_at, crate::proofs::CommentLaws::last_slash))]
 fn is_comment_at(s: &[u8], i: usize) -> bool
     requires { i < length s.now }
     ensures { result ≡ is_comment (drop i s.now) }
 {
-    s[i] == b'/' && i + 1 < s.len() && s[i + 1] == b'/'
+    if s[i] != b'/' {
+        return false;
+    }
+    i + 1 < s.len() && s[i + 1] == b'/'
 }
 
 // How many bytes stand before the comment.

@@ -11,6 +11,7 @@ use crate::hex_prefix::has_hex_prefix;
 use crate::white_space::{is_white, white_end};
 use numbers::parse::digit_value;
 use sheet::name_index::Names;
+use slices::compare::is_within;
 
 // How many bytes `0x` or `0X` take, where one opens s.
 #[tactic(auto, using(crate::proofs::MarkLaws::prefix_length))]
@@ -49,7 +50,7 @@ fn is_white_at(s: &[u8], i: usize) -> bool
 fn is_letter_at(s: &[u8], i: usize) -> bool
     ensures { result ≡ is_letter (get_or s.now i 0) }
 {
-    i < s.len() && matches!(s[i], b'A'..=b'Z' | b'a'..=b'z')
+    i < s.len() && (is_within(b'A', b'Z', s[i]) || is_within(b'a', b'z', s[i]))
 }
 
 // Where the instruction starts: behind an offset, or 0. The search for the name comes last, as it costs most.

@@ -79,13 +79,13 @@ module _ (x : Carrying) (i at q new c d bits : ℕ) (map ids : List ℕ) (m : Ma
   moved (Err v) said b = is_refused v refl said
 
   -- another family
-  others_moved : (family_of c ≡ family_of d → ⊥) → Moved x i at q new c d bits (Err NotCarried)
+  pub others_moved : (family_of c ≡ family_of d → ⊥) → Moved x i at q new c d bits (Err NotCarried)
   unfolding on_moved
   others_moved n = is_refused NotCarried refl (λ rest. of_others x i at q c d bits rest n)
 
   module _ (same : family_of c ≡ family_of d) where
     -- a number of another width
-    number_moved : within 1 2 (family_of c) ≡ true → Moved x i at q new c d bits (near_bits (number_into (width_of d) bits))
+    pub number_moved : within 1 2 (family_of c) ≡ true → Moved x i at q new c d bits (near_bits (number_into (width_of d) bits))
     number_moved w =
         let h = within_range 1 2 (family_of c) w in
         let no-string : family_of c ≡ 3 → ⊥ = λ f. omega (arith, h.1, f) in
@@ -95,7 +95,7 @@ module _ (x : Carrying) (i at q new c d bits : ℕ) (map ids : List ℕ) (m : Ma
         (λ o e. rest_bits c d at new bits map ids no-string no_address ∙ number_near (width_of d) bits o e)
 
     -- the id of a string
-    id_moved : family_of c ≡ 3 → Moved x i at q new c d bits (near_bits (id_into (width_of d) bits ids))
+    pub id_moved : family_of c ≡ 3 → Moved x i at q new c d bits (near_bits (id_into (width_of d) bits ids))
     id_moved f =
         moved (near_bits (id_into (width_of d) bits ids))
         (λ rest. of_string x i at q c d bits rest same f ids m.translated)
@@ -108,7 +108,7 @@ module _ (x : Carrying) (i at q new c d bits : ℕ) (map ids : List ℕ) (m : Ma
             (λ h. absurd (let y : ◌≡◌ {A = NewBits} (Err NotCarried) (Ok o) = rw h at e in cc y))
 
     -- an Addr
-    address_moved : family_of c ≡ 4 → Moved x i at q new c d bits (address_into (width_of d) new (target_mark (width_of c) at bits map))
+    pub address_moved : family_of c ≡ 4 → Moved x i at q new c d bits (address_into (width_of d) new (target_mark (width_of c) at bits map))
     address_moved f =
         moved (address_into (width_of d) new mark)
         (λ rest. of_target x i at q c d bits rest same f map new m.mapped)
@@ -124,7 +124,7 @@ module _ (x : Carrying) (i at q new c d bits : ℕ) (map ids : List ℕ) (m : Ma
             (λ z. let y : ◌≡◌ {A = NewBits} (Ok (distance_into (width_of d) new (mark - 1))) (Ok o) = rw (ne_eqb mark 0 z) at e in cc y)
 
     -- one that keeps its bytes
-    kept_moved : (family_of c ≡ 3 → ⊥) → (family_of c ≡ 4 → ⊥) → both (not (eqb c d)) (within 1 2 (family_of c)) ≡ false → bits < 256 ^ width_of c → Moved x i at q new c d bits (Ok (Some bits))
+    pub kept_moved : (family_of c ≡ 3 → ⊥) → (family_of c ≡ 4 → ⊥) → both (not (eqb c d)) (within 1 2 (family_of c)) ≡ false → bits < 256 ^ width_of c → Moved x i at q new c d bits (Ok (Some bits))
     unfolding on_moved
     kept_moved no-string no_address k small =
         moved (Ok (Some bits))

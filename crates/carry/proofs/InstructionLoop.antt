@@ -369,7 +369,7 @@ module _ (types types₂ : List (List ℕ)) (rows : List OpcodeRow) (last : ℕ)
         new_size : row.new_length ≡ 1 + total_width row'
         new_size = new_length ∙ ap length_of new_is
 
-        here : Here
+        pub here : Here
         here = record {
           known = g.opcodes op u instruction.small;
           room = instruction.room;
@@ -379,7 +379,7 @@ module _ (types types₂ : List (List ℕ)) (rows : List OpcodeRow) (last : ℕ)
         }
 
         -- its row, and the plans of its operands
-        abbrev planned_here : (plans : List (List (Option Plan))) → Plans types types₂ rows last plans → Instruction row (get_or plans op []) s at
+        abbrev pub planned_here : (plans : List (List (Option Plan))) → Plans types types₂ rows last plans → Instruction row (get_or plans op []) s at
         planned_here plans p = record {
           planning = record { row = old; row' = row'; planned = p op u instruction.small; room = instruction.room };
           state = λ z. rw (old_is, new_is) at (state_copied (old_row g.from record_here) (new_row g.from g.into record_here) name_found (sym state_is ∙ z));
@@ -478,13 +478,13 @@ module _ (types types₂ : List (List ℕ)) (rows : List OpcodeRow) (last : ℕ)
               }
 
       -- 4: the second sheet lacks its name
-      unknown : row.state ≡ Missing → AllPromised out (Err (UnknownName i))
+      pub unknown : row.state ≡ Missing → AllPromised out (Err (UnknownName i))
       unknown e g =
           refused_here g (UnknownName i)
           (λ cs rest. first_missing (carrying_in g) i _ _ cs rest (state_missing (old_row g.from (record_here g)) (new_row g.from g.into (record_here g)) (name_found g) (sym (state_is g) ∙ e))) out
 
       -- 5: it has the name with another number of operands
-      other_count : row.state ≡ OtherCount → AllPromised out (Err (OperandCount i))
+      pub other_count : row.state ≡ OtherCount → AllPromised out (Err (OperandCount i))
       other_count e g =
           refused_here g (OperandCount i)
           (λ cs rest. first_other (carrying_in g) i _ _ cs rest
@@ -494,10 +494,10 @@ module _ (types types₂ : List (List ℕ)) (rows : List OpcodeRow) (last : ℕ)
       -- it was carried
       module _ (e : (row.state ≡ Missing → ⊥) × (row.state ≡ OtherCount → ⊥)) (out' : List ℕ) (r : Result Operands OperandRefusal) (said : Promised (row.opcode) old row' s at new map ids block n out' r) where
         -- an operand that cannot be carried
-        bad : (f : OperandFault) (q : ℕ) → r ≡ Err (record { fault = f; operand = q }) → AllPromised out (Err (BadOperand f i q))
+        pub bad : (f : OperandFault) (q : ℕ) → r ≡ Err (record { fault = f; operand = q }) → AllPromised out (Err (BadOperand f i q))
         bad f q v g = let c = instruction_said g e out' (Err (record { fault = f; operand = q })) (rw v at said) in bad_here g e c.block₁ c.b out' f q c.operands
 
-        turn : Ready types types₂ rows last s map ids → n ≤ instruction_start → length out' ≡ length block → (k' : ℕ) (q : Option ℕ) → r ≡ Ok (record { next = k'; far = q }) → (first' : Option Far) → first' ≡ keep_first first i q
+        pub turn : Ready types types₂ rows last s map ids → n ≤ instruction_start → length out' ≡ length block → (k' : ℕ) (q : Option ℕ) → r ≡ Ok (record { next = k'; far = q }) → (first' : Option Far) → first' ≡ keep_first first i q
             → Going out out' k k' (new + row.new_length) (i + 1) first' (at + row.length)
         turn g₀ few l k' q v first' w = record {
           below = omega (arith, (here g₀).some, going.below);

@@ -1,16 +1,20 @@
 -- Instructions that keep their bytes but for the opcode. Assumes nothing.
 use mathlib.Core.Path.{◌≡◌, refl, ap, sym, ◌∙◌}
 use mathlib.Core.Bool.{Bool, true, false}
-use Rattle.std.specs.Prelude.{◌&&◌, None, Ok}
+use Rattle.std.specs.Prelude.{◌&&◌, None, Ok, zip}
+use Rattle.std.specs.List.{list_all}
 use mathlib.Core.List.{List, [], ◌∷◌, ◌++◌, append_assoc}
 use Prim.Native.Nat.{ℕ, suc, ◌+◌, ◌-◌, ◌*◌, ◌/◌, ◌%◌, ◌≤◌, ◌<◌, min}
+use native.Mathlib.Numerals.{add-one}
 use native.Mathlib.Omega.{arith}
 use lib.Dec.{eqb, leb}
-use lib.ListN.{length, drop, length-append}
-use lib.Seq.{drop_at}
+use lib.ListN.{length, drop, get_or, length-append, drop_of_length-le}
+use lib.Seq.{drop-cons, drop-drop, drop_at, get_or-drop}
 use borrow.Author.Tests.{eqb-true}
+use Rattle.lists.specs.Choice.{both}
 use Rattle.lists.specs.Scan.{Bytes, part}
 use Rattle.lists.specs.Write.{put, Put, ByWords, top}
+use Rattle.lists.proofs.Links.{both_and}
 use Rattle.lists.proofs.Tests.{both_left, both_right}
 use Rattle.lists.proofs.Parts.{part_length, part_add, bytes_drop, bytes_take}
 use Rattle.lists.proofs.Writes.{◌then◌, put_length}
@@ -33,14 +37,31 @@ use Rattle.carry.proofs.PlanLaws.{when_kept}
 use Rattle.carry.proofs.WriteLaws.{none_holds}
 use Rattle.carry.proofs.CarriedLaws.{kept_passes, kept_near, kept_bits}
 
--- both of two tests
-and_left : (a b : Bool) → (a && b) ≡ true → a ≡ true
-and_left true b e = refl
-and_left false b e = absurd (cc e)
+-- types beside each other are all kept where each two are
+pub kept_beside : (row new : List ℕ) → length row ≡ length new → keeps_all row new ≡ list_all (λ p. keeps_type p.0 p.1) (zip row new)
+unfolding keeps_all
+kept_beside [] new l = refl
+kept_beside (c ∷ cs) [] l = absurd (omega arith)
+kept_beside (c ∷ cs) (d ∷ ds) l = both_and (keeps_type c d) _ ∙ ap (λ (b : Bool). keeps_type c d && b) (kept_beside cs ds (omega arith))
 
-and_right : (a b : Bool) → (a && b) ≡ true → b ≡ true
-and_right true b e = e
-and_right false b e = absurd (cc e)
+-- those in front of j are kept
+module _ (row new : List ℕ) (j : ℕ) (g : keeps_all row new ≡ keeps_all (drop j row) (drop j new)) where
+  type_here : j < length row → keeps_all (drop j row) (drop j new) ≡ both (keeps_type (get_or row j 0) (get_or new j 0)) (keeps_all (drop (j + 1) row) (drop (j + 1) new))
+  unfolding keeps_all
+  type_here h =
+      let z : j + 0 ≡ j = omega arith in
+      let e : get_or (drop j new) 0 0 ≡ get_or new j 0 = get_or-drop j new 0 0 ∙ ap (λ (n : ℕ). get_or new n 0) z in
+      rw (drop-cons row j 0 h, e, drop-drop 1 j new, add-one j)
+
+  pub type_changed : j < length row → keeps_type (get_or row j 0) (get_or new j 0) ≡ false → keeps_all row new ≡ false
+  type_changed h e = g ∙ (type_here h ∙ rw e)
+
+  pub type_kept : j < length row → keeps_type (get_or row j 0) (get_or new j 0) ≡ true → keeps_all row new ≡ keeps_all (drop (j + 1) row) (drop (j + 1) new)
+  type_kept h e = g ∙ (type_here h ∙ rw e)
+
+  pub types_kept : length row ≤ j → keeps_all row new ≡ true
+  unfolding keeps_all
+  types_kept h = g ∙ rw (drop_of_length-le row h)
 
 -- a word whose lowest byte is another
 pub word_bytes : (s : List ℕ) (at n op : ℕ) → Bytes s → at + 8 ≤ length s → 1 ≤ n → n ≤ 8 → op < 256 → le_bytes n (le (part s at 8) / 256 * 256 + op) ≡ op ∷ part s (at + 1) (n - 1)
@@ -77,17 +98,17 @@ module _ (x : Carrying) (i at new : ℕ) (s : List ℕ) (b : Bytes s) where
     bytes : new_operands x at new cs ds (pairs cs s p) ≡ part s p (total_width cs)
 
   all_kept : (cs ds : List ℕ) (p q : ℕ) → keeps_all cs ds ≡ true → length cs ≡ length ds → p + total_width cs ≤ length s → Kept cs ds p q
-  unfolding operands_cases far_cases new_operands pairs sum_by
+  unfolding keeps_all operands_cases far_cases new_operands pairs sum_by
   all_kept [] [] p q k l h = record { passed = none; near = none; bytes = refl }
   all_kept [] (d ∷ ds) p q k l h = absurd (omega arith)
   all_kept (c ∷ cs) [] p q k l h = absurd (omega arith)
   all_kept (c ∷ cs) (d ∷ ds) p q k l h =
       let w = width_of c in
       let bits = le (part s p w) in
-      let t = and_left (keeps_type c d) _ k in
+      let t = both_left (keeps_type c d) _ k in
       let e : c ≡ d = eqb-true c d (both_left (eqb c d) _ t) in
       let f = when_kept c d (both_right (eqb c d) _ t) in
-      let rest = all_kept cs ds (p + w) (suc q) (and_right (keeps_type c d) _ k) (omega arith) (omega arith) in
+      let rest = all_kept cs ds (p + w) (suc q) (both_right (keeps_type c d) _ k) (omega arith) (omega arith) in
       let own : le_bytes (width_of d) (new_bits x at new c d bits) ≡ part s p w =
       rw (kept_bits x i at q c d bits f.0 f.1 f.2 new, sym e) (rw (part_length s p w (omega arith)) at (le_bytes_le (part s p w) (bytes_take (drop p s) w (bytes_drop s p b)))) in
       record {

@@ -161,7 +161,7 @@ module _ {x : Carrying} {i at new : ℕ} {row row' s out₀ : List ℕ} {k : ℕ
 
 -- the j-th plan of an instruction
 module _ {plans : List (Option Plan)} {s : List ℕ} {at : ℕ} (g : Planning plans s at) (j : ℕ) where
-  plan_here : get_or plans j None ≡ plan_of (get_or g.row j 0) (get_or g.row' j 0)
+  pub plan_here : get_or plans j None ≡ plan_of (get_or g.row j 0) (get_or g.row' j 0)
   plan_here = ap (λ (l : List (Option Plan)). get_or l j None) g.planned.are ∙ plan_at g.row g.row' j
 
   pub code_none : get_or plans j None ≡ None → get_or g.row j 0 ≡ 0

@@ -1,6 +1,5 @@
 -- What is to be done with an operand, by its types under both sheets. Assumes nothing.
-use Rattle.std.specs.Prelude.{◌≡◌, Bool, true, false, not, List, [], ◌∷◌, ℕ, ◌+◌, ◌<◌, ◌≤◌, Option, None, Some, eqb, leb, length, drop, get_or, zip}
-use Rattle.std.specs.List.{list_all}
+use Rattle.std.specs.Prelude.{◌≡◌, Bool, true, false, not, List, [], ◌∷◌, ℕ, ◌+◌, ◌<◌, ◌≤◌, Option, None, Some, eqb, leb, length, drop, get_or}
 use Rattle.lists.specs.Choice.{pick, both, within}
 use Rattle.spec_sheet.specs.Row.{length_of}
 use Rattle.spec_sheet.specs.Types.{width_of, family_of, reg_family, uint_family, string_family, addr_family}
@@ -31,8 +30,9 @@ abbrev pub keeps_type : ℕ → ℕ → Bool
 keeps_type c d = both (eqb c d) (is_kept (action_of c d))
 
 -- so do all operands of these types
-abbrev pub keeps_all : List ℕ → List ℕ → Bool
-keeps_all row row' = list_all (λ p. keeps_type p.0 p.1) (zip row row')
+unfoldable pub keeps_all : List ℕ → List ℕ → Bool
+keeps_all [] ds = true
+keeps_all (c ∷ cs) ds = both (keeps_type c (get_or ds 0 0)) (keeps_all cs (drop 1 ds))
 
 -- an instruction of at most eight bytes keeps all of them but its opcode
 abbrev pub copied : List ℕ → List ℕ → Bool

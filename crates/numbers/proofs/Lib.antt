@@ -4,7 +4,6 @@ pub mod LowBytes
 pub mod WidthLaws
 pub mod AnswerLaws
 pub mod RoomLaws
-pub mod DigitLaws
 pub mod TurnLaws
 pub mod DigitTurns
 pub mod BaseTurns

@@ -6,23 +6,37 @@ ghost use Rattle.spec_numbers.specs.TwosComplement.{unsigned};
 ghost use Rattle.numbers.specs.Answers.{number_of};
 ghost use Rattle.numbers.specs.Room.{has_room};
 
-// What a byte is worth as a digit. One that is no digit is worth 16, which no base has, so that a reader compares once.
+use slices::compare::is_within;
+
+// What a byte is worth as a digit. One that is no digit is worth 16, which no base has, so that a reader compares once. A range takes one
+// comparison here, and two in a `match` on the ranges.
 pub fn digit_value(b: u8) -> u8
     ensures { result ≡ digit_value b }
 {
-    match b {
-        b'0'..=b'9' => b - 48,
-        b'a'..=b'f' => b - 87,
-        b'A'..=b'F' => b - 55,
-        _ => 16,
+    if is_within(b'0', b'9', b) {
+        return b - 48;
     }
+    if is_within(b'a', b'f', b) {
+        return b - 87;
+    }
+    if is_within(b'A', b'F', b) {
+        return b - 55;
+    }
+    16
 }
 
-// Whether one more digit may stand behind n, where the largest number is `last` behind `front`.
+// Whether one more digit may stand behind n, where the largest number is `last` behind `front`. Mostly the first comparison says it; one
+// condition with `||` and `&&` has all of them made for each digit.
 fn has_room(front: u64, last: u64, n: u64, d: u64) -> bool
     ensures { result ≡ has_room front last n d }
 {
-    n < front || n == front && d <= last
+    if n < front {
+        return true;
+    }
+    if n == front {
+        return d <= last;
+    }
+    false
 }
 
 // The number of some digits. The next number is compared with `most` before it is made, so that `most` may be the largest u64;

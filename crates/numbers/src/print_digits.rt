@@ -5,18 +5,15 @@ ghost use Rattle.lists.specs.Write.{Put};
 ghost use Rattle.spec_numbers.specs.Print.{digit, digits};
 ghost use Rattle.numbers.specs.Digits.{square, two_of, four_of, eight_of};
 
-use slices::write::{put_byte, put_bytes};
+use slices::write::put_byte;
 
-// The character of a digit.
+// The character of a digit, counted on from that of ten: the colon stands behind 9.
 fn digit_char(d: u64, letter: u8) -> u8
     requires { (d < 16) × (letter ≤ 97) }
     ensures { result ≡ digit letter d }
 {
-    if d < 10 {
-        48 + (d as u8)
-    } else {
-        letter + ((d as u8) - 10)
-    }
+    let ten = if d < 10 { 58 } else { letter as u64 };
+    (ten + d - 10) as u8
 }
 
 // The two digits of a number, with a zero in front.
@@ -24,8 +21,8 @@ pub(crate) fn put_two<const BASE: u64>(out: &mut [u8], at: usize, n: u64, letter
     requires { (1 < BASE) × (BASE ≤ 16) × (n < square BASE) × (letter ≤ 97) }
     ensures { Put out.old at (two_of BASE letter n) out.new result }
 {
-    let two = [digit_char(n / BASE, letter), digit_char(n % BASE, letter)];
-    put_bytes(out, at, &two)
+    let k = put_byte(out, at, digit_char(n / BASE, letter));
+    put_byte(out, k, digit_char(n % BASE, letter))
 }
 
 // Four digits, with zeros in front.
@@ -34,15 +31,8 @@ pub(crate) fn put_four<const BASE: u64>(out: &mut [u8], at: usize, n: u64, lette
     ensures { Put out.old at (four_of BASE letter n) out.new result }
 {
     let two = BASE * BASE;
-    let front = n / two;
-    let back = n % two;
-    let four = [
-        digit_char(front / BASE, letter),
-        digit_char(front % BASE, letter),
-        digit_char(back / BASE, letter),
-        digit_char(back % BASE, letter),
-    ];
-    put_bytes(out, at, &four)
+    let k = put_two::<BASE>(out, at, n / two, letter);
+    put_two::<BASE>(out, k, n % two, letter)
 }
 
 // Eight digits, with zeros in front.

@@ -1,25 +1,29 @@
-use Rattle.std.proofs.Common.{sym, arith}
-use Rattle.spec_numbers.proofs.ParseLaws.{value_of_digit, value_of_lower, value_of_upper}
-use Rattle.numbers.proofs.DigitLaws.{no_digit}
+use Rattle.std.proofs.Common.{sym, ◌∙◌, arith}
+use Rattle.spec_numbers.specs.Parse.{digit_value}
+use Rattle.lists.proofs.Tests.{within_least}
 use Rattle.numbers.proofs.parse.digit_value.Goals as goal
 
-pub returns-in-48-to-57 : goal.returns-in-48-to-57
-returns-in-48-to-57 c = sym (value_of_digit c.args.b (omega arith) (omega arith))
+pub overflow_sub-result : goal.overflow_sub-result
+overflow_sub-result c = omega (arith, within_least 48 57 c.args.b (sym c.is_within.ensures ∙ c.if-is_within.true))
 
-pub returns-in-65-to-70 : goal.returns-in-65-to-70
-returns-in-65-to-70 c = sym (value_of_upper c.args.b (omega arith) (omega arith))
+pub returns-then-is_within : goal.returns-then-is_within
+unfolding digit_value
+returns-then-is_within c = rw (sym c.is_within.ensures ∙ c.if-is_within.true)
 
-pub returns-in-97-to-102 : goal.returns-in-97-to-102
-returns-in-97-to-102 c = sym (value_of_lower c.args.b (omega arith) (omega arith))
+pub overflow_sub-result-then-is_within-2 : goal.overflow_sub-result-then-is_within-2
+overflow_sub-result-then-is_within-2 c = omega (arith, within_least 97 102 c.args.b (sym c.is_within-2.ensures ∙ c.if-is_within-2.true))
 
-pub returns-in_default : goal.returns-in_default
-returns-in_default c = no_digit c.args.b (λ l m. omega arith) (λ l m. omega arith) (λ l m. omega arith)
+pub returns-then-is_within-2 : goal.returns-then-is_within-2
+unfolding digit_value
+returns-then-is_within-2 c = rw (sym c.is_within.ensures ∙ c.if-is_within.false, sym c.is_within-2.ensures ∙ c.if-is_within-2.true)
 
-pub returns-in_default-2 : goal.returns-in_default-2
-returns-in_default-2 c = no_digit c.args.b (λ l m. omega arith) (λ l m. omega arith) (λ l m. omega arith)
+pub overflow_sub-result-then-is_within-3 : goal.overflow_sub-result-then-is_within-3
+overflow_sub-result-then-is_within-3 c = omega (arith, within_least 65 70 c.args.b (sym c.is_within-3.ensures ∙ c.if-is_within-3.true))
 
-pub returns-in_default-3 : goal.returns-in_default-3
-returns-in_default-3 c = no_digit c.args.b (λ l m. omega arith) (λ l m. omega arith) (λ l m. omega arith)
+pub returns-then-is_within-3 : goal.returns-then-is_within-3
+unfolding digit_value
+returns-then-is_within-3 c = rw (sym c.is_within.ensures ∙ c.if-is_within.false, sym c.is_within-2.ensures ∙ c.if-is_within-2.false, sym c.is_within-3.ensures ∙ c.if-is_within-3.true)
 
-pub returns-in_default-4 : goal.returns-in_default-4
-returns-in_default-4 c = no_digit c.args.b (λ l m. omega arith) (λ l m. omega arith) (λ l m. omega arith)
+pub returns : goal.returns
+unfolding digit_value
+returns c = rw (sym c.is_within.ensures ∙ c.if-is_within.false, sym c.is_within-2.ensures ∙ c.if-is_within-2.false, sym c.is_within-3.ensures ∙ c.if-is_within-3.false)

@@ -1,11 +1,12 @@
-use Rattle.std.proofs.Common.{le-ltb, lt-ltb}
+use Rattle.std.proofs.Common.{arith, le-ltb, lt-ltb}
 use Rattle.spec_numbers.specs.Print.{digit}
 use Rattle.numbers.proofs.print_digits.digit_char.Goals as goal
+use Rattle.numbers.proofs.print_digits.digit_char.Goals.{then-d-lt10, else-d-lt10}
 
-pub returns-then-d-lt10 : goal.returns-then-d-lt10
+pub returns : goal.returns
 unfolding digit
-returns-then-d-lt10 c = rw (lt-ltb _ _ c.if-d-lt10.true)
-
-pub returns-else-d-lt10 : goal.returns-else-d-lt10
-unfolding digit
-returns-else-d-lt10 c = rw (le-ltb _ _ c.if-d-lt10.false)
+returns c =
+    elim c.if-d-lt10.branch [
+      | then-d-lt10 w ↦ rw (lt-ltb _ _ w.if-d-lt10.true, w.ten-is) (omega arith)
+      | else-d-lt10 w ↦ rw (le-ltb _ _ w.if-d-lt10.false, w.ten-is) (omega arith)
+    ]

@@ -1,5 +1,5 @@
-use Rattle.lists.proofs.Writes.{same_piece}
+use Rattle.lists.proofs.Writes.{◌then◌}
 use Rattle.numbers.proofs.print_digits.put_four.Goals as goal
 
 pub returns : goal.returns
-returns g c = same_piece (rw (c.digit_char.ensures, c.digit_char-2.ensures, c.digit_char-3.ensures, c.digit_char-4.ensures)) c.put_bytes.ensures
+returns g c = c.put_two-k.ensures then c.put_two.ensures

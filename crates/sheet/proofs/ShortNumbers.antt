@@ -8,6 +8,7 @@ use lib.Dec.{eqb, ltb}
 use lib.ListN.{length, drop, take, get_or, take-append-drop, length-drop, drop_of_length-le}
 use lib.Seq.{drop-cons, drop-drop, take-suc, get_or-drop}
 use native.Mathlib.Numerals.{add-one}
+use Rattle.std.specs.Prelude.{Option, Some}
 use Rattle.lists.proofs.Parts.{part_at, part_length}
 use borrow.Author.Tests.{ne_eqb, le-ltb}
 use Rattle.lists.specs.Choice.{both}
@@ -20,6 +21,7 @@ use Rattle.spec_numbers.proofs.ParseLaws.{value_of_digit, value_step}
 use Rattle.spec_sheet.specs.Scan.{is_digit, number_at}
 use Rattle.spec_sheet.specs.Scan.Step.{next}
 use Rattle.spec_sheet.proofs.ScanLaws.{number_value}
+use Rattle.sheet.specs.declared.scan.Reading.{Reading}
 
 -- one digit more
 digit_step : (n b : ℕ) (s : List ℕ) → is_digit b ≡ true → n * 10 + (b - 48) ≤ 255 → digits_value 10 255 n (b ∷ s) ≡ digits_value 10 255 (n * 10 + (b - 48)) s
@@ -33,6 +35,13 @@ digit_step n b s d h =
 some_digits : (ds : List ℕ) (b : ℕ) (t : List ℕ) (n : ℕ) → ds ≡ b ∷ t → digits_value 10 255 0 ds ≡ is n → unsigned_value 10 255 ds ≡ is n
 unfolding unsigned_value
 some_digits ds b t n e f = rw e (rw e at f)
+
+-- a number that was read, told by its fields
+pub short_told : (s : List ℕ) (at m n k : ℕ) {r : Reading} → number_at 255 s at ≡ next n k → m ≡ n → k ≤ at + 3 → ◌≡◌ {A = Option Reading} (Some (record { value = m; next = k })) (Some r)
+    → (number_at 255 s at ≡ next r.value r.next) × (r.next ≤ at + 3)
+short_told s at m n k {r} e f h g =
+    let q : ◌≡◌ {A = Reading} (record { value = m; next = k }) r = cc g in
+    (rw (sym f) at e ∙ ap (λ (t : Reading). next t.value t.next) q, omega (arith, h, ap (λ (t : Reading). t.next) q))
 
 -- i digits were read, of those that stand in front of a space
 pub record Going (s : List ℕ) (at size n i : ℕ) : Type 0 where

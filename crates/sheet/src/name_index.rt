@@ -58,6 +58,7 @@ pub struct Names<'a> {
 
 impl<'a> Names<'a> {
     // The first opcode that has a name.
+    #[tactic(auto, using(crate::proofs::NameWalk::first_name))]
     pub fn find(self, name: &[u8]) -> Option<usize>
         ensures { result ≡ found_of (find_name self.entry.text.now name.now 0 self.entry.ops.now) }
     {

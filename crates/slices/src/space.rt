@@ -1,8 +1,10 @@
 // Work space of a size that its type says.
-ghost use Rattle.std.specs.Prelude.{◌≤◌, ◌<◌, length};
+ghost use Rattle.std.specs.Prelude.{◌≡◌, ◌≤◌, ◌<◌, length, replicate};
 
 // An array that holds `zero` in each element.
-pub fn zeroed<T: Copy, const N: usize>(zero: T) -> [T; N] {
+pub fn zeroed<T: Copy, const N: usize>(zero: T) -> [T; N]
+    ensures { result ≡ replicate N zero }
+{
     [zero; N]
 }
 

@@ -1,5 +1,5 @@
 // UTF-8 as the definition reads it: one state and one byte at a time.
-ghost use Rattle.std.specs.Prelude.{◌≡◌, ◌≤◌, eqb, length};
+ghost use Rattle.std.specs.Prelude.{◌≡◌, ℕ, ◌≤◌, eqb, length};
 ghost use Rattle.std.specs.Char.{is_ascii};
 ghost use Rattle.std.specs.List.{prefix_len};
 ghost use Rattle.lists.specs.Choice.{pick, within};
@@ -56,6 +56,41 @@ fn to_or_broken(lo: u8, hi: u8, b: u8, to: State) -> State
 }
 
 impl State {
+    // The state that a number stands for: each number above 8 stands for the broken one, from which every byte leads to 8.
+    #[tactic(auto, using(std::proofs::lemmas::Bool::Decides::nat_tests), unfolding(spec_strings::specs::Utf8::step, spec_strings::specs::Utf8::after_next))]
+    fn of_number(n: u8) -> State
+        ensures { (b : ℕ) → step (state_number result) b ≡ step n b }
+    {
+        match n {
+            0 => State::Between,
+            1 => State::OneMore,
+            2 => State::TwoMore,
+            3 => State::ThreeMore,
+            4 => State::BehindE0,
+            5 => State::BehindEd,
+            6 => State::BehindF0,
+            7 => State::BehindF4,
+            _ => State::Broken,
+        }
+    }
+
+    // The number of a state.
+    fn number(self) -> u8
+        ensures { result ≡ state_number self }
+    {
+        match self {
+            State::Between => 0,
+            State::OneMore => 1,
+            State::TwoMore => 2,
+            State::ThreeMore => 3,
+            State::BehindE0 => 4,
+            State::BehindEd => 5,
+            State::BehindF0 => 6,
+            State::BehindF4 => 7,
+            State::Broken => 8,
+        }
+    }
+
     // The state behind a continuation byte.
     #[tactic(auto, unfolding(spec_strings::specs::Utf8::after_next))]
     fn after_next(self, b: u8) -> State
@@ -98,6 +133,13 @@ impl State {
     {
         matches!(self, State::Broken)
     }
+}
+
+// The number of the state behind one byte more, from the number of the state before it.
+pub fn step(st: u8, b: u8) -> u8
+    ensures { result ≡ step st b }
+{
+    State::of_number(st).step(b).number()
 }
 
 // How many bytes in front are ASCII. Most bytes are, which changes nothing between characters: a run of them costs one test a byte.

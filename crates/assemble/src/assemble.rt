@@ -15,7 +15,7 @@ use hasm_labels::label_entry::Slot;
 use operation::ending::settle;
 use operation::inputs::read_inputs;
 use sheet::tables::Tables;
-use slices::clearing::clear;
+use slices::clearing::clear_labels;
 use slices::space::with_words;
 use strings::table::StringTable;
 use strings::text_index::{ALL_INDEX, FEW_INDEX, SOME_INDEX};
@@ -33,13 +33,13 @@ fn assemble_given(
     ensures labels_after { labels.new ≡ cleared (0 ∷ 0 ∷ 0 ∷ []) labels.old }
 {
     if limits::TEXT_LIMIT < text.len() {
-        clear(labels, [0, 0, 0]);
+        clear_labels(labels);
         return Err(Failure::Refused(Refusal::TooLarge));
     }
     let mut types = [[0u8; 8]; 256];
     let mut ops = [[0usize; 4]; 256];
     if let Err(x) = read_inputs(sheet, strings, &mut types, &mut ops) {
-        clear(labels, [0, 0, 0]);
+        clear_labels(labels);
         return Err(Failure::Refused(x));
     }
     let tables = Tables {

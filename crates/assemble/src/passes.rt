@@ -19,7 +19,7 @@ use hasm_labels::source::Source;
 use operation::ending::{measure, settle};
 use sheet::name_index::NAME_INDEX;
 use sheet::tables::Tables;
-use slices::clearing::clear;
+use slices::clearing::clear_labels;
 use slices::space::zeroed;
 use strings::table::StringTable;
 use strings::text_index::{TextIndex, index_texts};
@@ -73,7 +73,7 @@ fn name_and_put(
     match read_names(source, labels, b"L", &mut [], 0) {
         Ok(taken) => {
             let answer = put_indexed(ids, source, strings, taken, labels, out);
-            clear(labels, [0, 0, 0]);
+            clear_labels(labels);
             answer
         }
         Err(x) => Err(Failure::Refused(x)),
@@ -95,7 +95,7 @@ pub(crate) fn put_text(
     ensures ids_left { IdsLeft strings.entry.bytes.now strings.entry.ends.now ids.old ids.new }
 {
     if let Err(x) = hasm_read::lines::check_lines(text) {
-        clear(labels, [0, 0, 0]);
+        clear_labels(labels);
         return Err(Failure::Refused(x));
     }
     name_and_put(ids, tables, strings, text, out, labels)

@@ -23,7 +23,7 @@ use crate::plans::plan_table;
 use answers::failure::Answer;
 use operation::ending::{measure, settle};
 use sheet::tables::Tables;
-use slices::clearing::clear;
+use slices::clearing::{clear_entries, clear_labels};
 use slices::space::with_words;
 use strings::table::StringTable;
 use strings::text_index::{FEW_STRINGS, SOME_STRINGS};
@@ -64,7 +64,7 @@ fn carry_mapped(
     requires { Prepared opcodes.types.now opcodes.types2.now opcodes.rows.now opcodes.last ids.now × (length s.now ≤ body_limit) × (length s.now < length map.old) }
     ensures { (g : Prepared opcodes.entry.types.now opcodes.entry.types2.now opcodes.entry.rows.now opcodes.entry.last ids.now) → Ended (carry_under g.contexts.«from» g.contexts.into opcodes.entry.last s.now) out.old (lent ∷ []) (left_by result out.new) (answer_report result) }
 {
-    clear(map, 0);
+    clear_entries(map);
     let n = mark_places(opcodes.rows, opcodes.last, s, map)?;
     carry_marked(opcodes, Marks { places: map, ids }, s, n, lent, out)
 }
@@ -235,6 +235,6 @@ pub fn carry(
 {
     let answer = carry_given(from, into, body, labels.len(), out);
     settle(answer, out);
-    clear(labels, [0, 0, 0]);
+    clear_labels(labels);
     answer
 }

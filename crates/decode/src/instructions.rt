@@ -12,7 +12,7 @@ use answers::failure::{Answer, Failure};
 use answers::refusal::Refusal;
 use operation::area::Area;
 use sheet::opcode::read_sheet;
-use slices::clearing::clear;
+use slices::clearing::clear_words;
 use slices::part::part_of;
 
 // Decodes a body under a sheet's table of type codes. The caller clears what a failure leaves.
@@ -32,7 +32,7 @@ pub fn decode(sheet: &[u8], body: &[u8], out: &mut [u64]) -> Answer
 {
     let answer = decode_body_of(sheet, body, out);
     if answer.is_err() {
-        clear(out, 0);
+        clear_words(out);
     }
     answer
 }
@@ -56,7 +56,7 @@ pub fn decode_function(sheet: &[u8], area: Area<'_>, id: usize, out: &mut [u64])
 {
     let answer = decode_function_of(sheet, area, id, out);
     if answer.is_err() {
-        clear(out, 0);
+        clear_words(out);
     }
     answer
 }

@@ -46,7 +46,7 @@ pub fn read_names(
                 p = next;
             }
             Err(x) => {
-                slices::clearing::clear(labels, [0, 0, 0]);
+                slices::clearing::clear_labels(labels);
                 return Err(x);
             }
         }

@@ -22,7 +22,7 @@ use listing::options::Options;
 use operation::area::Area;
 use operation::ending::settle;
 use sheet::tables::Tables;
-use slices::clearing::clear;
+use slices::clearing::clear_entries;
 use strings::table::StringTable;
 
 // The first position past the largest listing.
@@ -116,7 +116,7 @@ pub fn list_module(
     ensures ended { Ended (operation.list_module (options_of options) sheet.now strings.entry.bytes.now strings.entry.ends.now (area_of area.entry.functions.now area.entry.bytes.now area.entry.base)) out.old (length entries.old ∷ []) out.new (answer_report result) }
     ensures entries_after { entries.new ≡ cleared 0 entries.old }
 {
-    clear(entries, 0);
+    clear_entries(entries);
     let answer = module_given(options, sheet, strings, area, entries.len(), out);
     settle(answer, out);
     answer

@@ -19,7 +19,7 @@ use answers::failure::{Answer, Failure};
 use answers::refusal::Refusal;
 use operation::inputs::read_inputs;
 use sheet::tables::Tables;
-use slices::clearing::clear;
+use slices::clearing::{clear, clear_entries};
 use strings::table::StringTable;
 
 // Refuses what is not listed at all, which leaves the output all zero.
@@ -97,6 +97,6 @@ pub fn list(
     ensures ended { Ended (operation.list (options_of options) sheet.now strings.entry.bytes.now strings.entry.ends.now body.now) out.old (length entries.old ∷ []) out.new (answer_report result) }
     ensures entries_after { entries.new ≡ cleared 0 entries.old }
 {
-    clear(entries, 0);
+    clear_entries(entries);
     list_given(options, sheet, strings, body, entries.len(), out)
 }

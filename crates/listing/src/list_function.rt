@@ -15,7 +15,7 @@ use answers::failure::Answer;
 use operation::area::Area;
 use operation::inputs::read_inputs;
 use sheet::tables::Tables;
-use slices::clearing::clear;
+use slices::clearing::clear_entries;
 use strings::table::StringTable;
 
 // Lists a function under a sheet's tables: 20 and 18 of its body, then as a body.
@@ -80,6 +80,6 @@ pub fn list_function(
     ensures ended { Ended (operation.list_function (options_of options) sheet.now strings.entry.bytes.now strings.entry.ends.now (area_of area.entry.functions.now area.entry.bytes.now area.entry.base) id) out.old (length entries.old ∷ []) out.new (answer_report result) }
     ensures entries_after { entries.new ≡ cleared 0 entries.old }
 {
-    clear(entries, 0);
+    clear_entries(entries);
     function_given(options, sheet, strings, area, id, entries.len(), out)
 }

@@ -1,6 +1,4 @@
 use mathlib.Core.Path.{sym}
-use native.Mathlib.Omega.{arith}
-use lib.ListN.{length}
 use borrow.Author.Tests.{lt-ltb, le-ltb}
 use Rattle.spec_sheet.specs.Sheet.{is_missing}
 use Rattle.spec_carry.specs.Cases.{unless_case}
@@ -11,27 +9,27 @@ use Rattle.carry.proofs.inputs.check_tables.Goals as goal
 
 pub returns-then-body-gt-BODY_LIMIT : goal.returns-then-body-gt-BODY_LIMIT
 unfolding unless_case on_inputs is_missing or_zero
-returns-then-body-gt-BODY_LIMIT c = λ rest. rw (lt-ltb 65536 (length c.args.body.now) (omega arith))
+returns-then-body-gt-BODY_LIMIT c = λ rest. rw (lt-ltb _ _ c.if-body-gt-BODY_LIMIT.true)
 
 pub returns-then-too_large : goal.returns-then-too_large
 unfolding unless_case on_inputs is_missing or_zero
-returns-then-too_large c = λ rest. rw (le-ltb 65536 (length c.args.body.now) (omega arith), sym c.if-too_large.ensures)
+returns-then-too_large c = λ rest. rw (le-ltb _ _ c.if-body-gt-BODY_LIMIT.false, sym c.if-too_large.ensures)
 
 pub returns-then-too_large-2 : goal.returns-then-too_large-2
 unfolding unless_case on_inputs is_missing or_zero
-returns-then-too_large-2 c = λ rest. rw (le-ltb 65536 (length c.args.body.now) (omega arith), sym c.if-too_large.ensures, sym c.if-too_large-2.ensures)
+returns-then-too_large-2 c = λ rest. rw (le-ltb _ _ c.if-body-gt-BODY_LIMIT.false, sym c.if-too_large.ensures, sym c.if-too_large-2.ensures)
 
 pub returns-in-Some : goal.returns-in-Some
 unfolding unless_case on_inputs is_missing or_zero
 returns-in-Some c = λ rest.
-    rw (le-ltb 65536 (length c.args.body.now) (omega arith), sym c.if-too_large.ensures, sym c.if-too_large-2.ensures, was_found _ _ c.in-Some.ensures)
+    rw (le-ltb _ _ c.if-body-gt-BODY_LIMIT.false, sym c.if-too_large.ensures, sym c.if-too_large-2.ensures, was_found _ _ c.in-Some.ensures)
 
 pub returns-in-Some-find_fault : goal.returns-in-Some-find_fault
 unfolding unless_case on_inputs is_missing or_zero
 returns-in-Some-find_fault c = λ rest.
-    rw (le-ltb 65536 (length c.args.body.now) (omega arith), sym c.if-too_large.ensures, sym c.if-too_large-2.ensures, was_missing _ c.in_default.ensures, was_found _ _ c.in-Some-find_fault.ensures)
+    rw (le-ltb _ _ c.if-body-gt-BODY_LIMIT.false, sym c.if-too_large.ensures, sym c.if-too_large-2.ensures, was_missing _ c.in_default.ensures, was_found _ _ c.in-Some-find_fault.ensures)
 
 pub returns : goal.returns
 unfolding unless_case on_inputs is_missing or_zero
 returns c = λ rest.
-    rw (le-ltb 65536 (length c.args.body.now) (omega arith), sym c.if-too_large.ensures, sym c.if-too_large-2.ensures, was_missing _ c.in_default.ensures, was_missing _ c.in_default-find_fault.ensures)
+    rw (le-ltb _ _ c.if-body-gt-BODY_LIMIT.false, sym c.if-too_large.ensures, sym c.if-too_large-2.ensures, was_missing _ c.in_default.ensures, was_missing _ c.in_default-find_fault.ensures)

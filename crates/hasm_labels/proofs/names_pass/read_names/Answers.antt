@@ -30,7 +30,7 @@ returns-in-Err c =
     let a = c.args in
     let l = c.loop-at in
     let t = c.take_line in
-    λ bytes ends. (rw c.in-Err.is at (t.ensures bytes ends a.labels.now (l.invariant.0 bytes ends).going), rw (t.auto.labels, l.invariant.1) at c.clear.ensures)
+    λ bytes ends. (rw c.in-Err.is at (t.ensures bytes ends a.labels.now (l.invariant.0 bytes ends).going), rw (t.auto.labels, l.invariant.1) at c.clear_labels.ensures)
 
 pub loop-at-preserved : goal.loop-at-preserved
 loop-at-preserved c =

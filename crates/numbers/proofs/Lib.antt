@@ -4,6 +4,7 @@ pub mod LowBytes
 pub mod WidthLaws
 pub mod AnswerLaws
 pub mod RoomLaws
+pub mod DigitLaws
 pub mod TurnLaws
 pub mod DigitTurns
 pub mod BaseTurns

@@ -7,13 +7,13 @@ ghost use Rattle.numbers.specs.Digits.{square, two_of, four_of, eight_of};
 
 use slices::write::put_byte;
 
-// The character of a digit, counted on from that of ten: the colon stands behind 9.
+// The character of a digit, counted on from that of zero, where letters would begin ten before `letter`: 246 is -10 in a byte.
 fn digit_char(d: u64, letter: u8) -> u8
     requires { (d < 16) × (letter ≤ 97) }
     ensures { result ≡ digit letter d }
 {
-    let ten = if d < 10 { 58 } else { letter as u64 };
-    (ten + d - 10) as u8
+    let zero = if d < 10 { 48 } else { letter as u64 + 246 };
+    ((zero + d) % 256) as u8
 }
 
 // The two digits of a number, with a zero in front.

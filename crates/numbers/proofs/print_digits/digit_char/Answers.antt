@@ -7,6 +7,6 @@ pub returns : goal.returns
 unfolding digit
 returns c =
     elim c.if-d-lt10.branch [
-      | then-d-lt10 w ↦ rw (lt-ltb _ _ w.if-d-lt10.true, w.ten-is) (omega arith)
-      | else-d-lt10 w ↦ rw (le-ltb _ _ w.if-d-lt10.false, w.ten-is) (omega arith)
+      | then-d-lt10 w ↦ rw (lt-ltb _ _ w.if-d-lt10.true, w.zero-is) (omega arith)
+      | else-d-lt10 w ↦ rw (le-ltb _ _ w.if-d-lt10.false, w.zero-is) (omega arith)
     ]

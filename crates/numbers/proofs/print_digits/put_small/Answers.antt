@@ -7,4 +7,4 @@ use Rattle.numbers.proofs.print_digits.put_small.Goals as goal
 pub returns : goal.returns
 returns g c fuel h l =
     let front = front_within g.row.BASE c.args.letter (omega arith) fuel h c.args.n l (square g.row.BASE) in
-    same_piece (sym (last_two g.row.BASE c.args.letter (omega arith) fuel h c.args.n l c.if-n-two.false)) (c.put_few-k.ensures fuel h front then c.put_two.ensures)
+    same_piece (sym (last_two g.row.BASE c.args.letter (omega arith) fuel h c.args.n l (omega arith))) (c.put_few-k.ensures fuel h front then c.put_two.ensures)

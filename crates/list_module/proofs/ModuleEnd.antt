@@ -19,7 +19,7 @@ use Rattle.spec_listing.specs.Module.{Area, list_all}
 use Rattle.spec_listing.specs.Operation.{list_outcome, list_module}
 use Rattle.operation.specs.Ends.{measured_of, left_by}
 use Rattle.listing.specs.declared.body.Part.{Part}
-use Rattle.listing.proofs.EndLaws.{text_end, over_end}
+use Rattle.listing.proofs.EndLaws.{settled, text_end, over_end}
 use Rattle.list_module.specs.Modules.{ModuleWritten}
 use Rattle.list_module.specs.Modules.ModuleWritten.{within, over, ended}
 
@@ -33,6 +33,11 @@ module_end before now after p lent r a z h (over t m q e l g k s) =
     let same : q ≡ p = cc (sym l ∙ h) in
     rw e (over_end before now after p lent r a z t m (rw same at g) k s)
 module_end before now after p lent r a z h (ended f e l) = cc (sym l ∙ h)
+
+-- the same, where what does not fit is not cleared yet
+pub module_fits : (before now : List ℕ) (p : Part) (lent : ℕ) (r : Result ℕ Failure) {x : Listed} → r ≡ measured_of p.next listing_limit p.entries lent (length now)
+    → {w : Result Part Refusal} → w ≡ Ok p → ModuleWritten lent x before now w → Ended (list_outcome x) before (lent ∷ []) (left_by r now) (answer_report r)
+module_fits before now p lent r a h w = rw (settled r now (left_by r now) refl) at (module_end before now (left_by r now) p lent r a refl h w)
 
 -- one that is refused
 pub module_refused : {lent : ℕ} {x : Listed} {before now : List ℕ} {f : Refusal} {w : Result Part Refusal} → w ≡ Err f → ModuleWritten lent x before now w → x ≡ not_listed f

@@ -33,7 +33,7 @@ fn list_titled(
         return Err(Refusal::LongLine(id));
     }
     let b = put_byte(out, a, 10);
-    let part = listing::body::list_body(lister, s, b"  ", Room { from: b, lent }, out)?;
+    let part = listing::body::list_flags(lister, s, b"  ", Room { from: b, lent }, out)?;
     Ok(Part {
         next: put_byte(out, part.next, 10),
         ..part

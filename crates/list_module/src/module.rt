@@ -79,7 +79,13 @@ fn module_under(
         last,
     };
     let part = list_functions(&lister, area, lent, out)?;
-    operation::ending::measure(part.next, limits::LISTING_LIMIT, part.entries, lent, out)
+    operation::ending::fitting(
+        part.next,
+        limits::LISTING_LIMIT,
+        part.entries,
+        lent,
+        out.len(),
+    )
 }
 
 // Reads the sheet and lists a module. The output is left to settle.

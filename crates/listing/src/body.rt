@@ -91,8 +91,9 @@ fn list_sized<const N: usize>(
 // The most bytes of a body that takes small flags.
 const SMALL_BODY: usize = 4096;
 
-// With flags of a size that suffices: a small body takes small flags, which cost less to clear.
-fn list_flags(
+// Lists a body as `list_body` does, but what a refusal leaves is not cleared. With flags of a size that suffices: a small body takes
+// small flags, which cost less to clear.
+pub fn list_flags(
     lister: &Lister<'_>,
     s: &[u8],
     indent: &[u8],

@@ -6,9 +6,9 @@ use answers::failure::{Answer, Failure};
 use answers::refusal::Refusal;
 use slices::clearing::clear;
 
-// What a result of k bytes that needs `needed` label entries answers, where `room` bytes are lent.
+// What a result of k bytes that needs `needed` label entries answers, where `room` bytes are lent. Nothing is cleared.
 #[tactic(auto, using(std::proofs::lemmas::Bool::Decides::nat_tests), unfolding(crate::specs::Ends::measured_of))]
-fn fitting(k: usize, limit: usize, needed: usize, lent: usize, room: usize) -> Answer
+pub fn fitting(k: usize, limit: usize, needed: usize, lent: usize, room: usize) -> Answer
     ensures { result ≡ measured_of k limit needed lent room }
 {
     if limit < k {

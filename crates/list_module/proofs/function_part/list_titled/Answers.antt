@@ -18,10 +18,10 @@ returns-in_err-part c =
     let a = c.args in
     let l = a.lister.now in
     let p = err_from_is_err_and c.from_residual.result c.from_residual.ensures.1 in
-    rw (p.1, p.2) (titled_stopped (options_of l.options) (context_by l) a.room.lent l.last a.id a.name a.s.now c.requires.1 c.put_title-a.ensures c.if-a-from-gt-LINE_LIMIT.false c.put_byte-b.ensures _ (rw c.in_err-part.was at c.list_body.ensures.written))
+    rw (p.1, p.2) (titled_stopped (options_of l.options) (context_by l) a.room.lent l.last a.id a.name a.s.now c.requires.1 c.put_title-a.ensures c.if-a-from-gt-LINE_LIMIT.false c.put_byte-b.ensures _ (rw c.in_err-part.was at c.list_flags.ensures))
 
 pub returns : goal.returns
 returns c =
     let a = c.args in
     let l = a.lister.now in
-    titled_listed (options_of l.options) (context_by l) a.room.lent l.last a.id a.name a.s.now c.requires.1 c.put_title-a.ensures c.if-a-from-gt-LINE_LIMIT.false c.put_byte-b.ensures (rw c.in_ok-part.was at c.list_body.ensures.written) c.put_byte.ensures
+    titled_listed (options_of l.options) (context_by l) a.room.lent l.last a.id a.name a.s.now c.requires.1 c.put_title-a.ensures c.if-a-from-gt-LINE_LIMIT.false c.put_byte-b.ensures (rw c.in_ok-part.was at c.list_flags.ensures) c.put_byte.ensures

@@ -2,7 +2,7 @@ use Rattle.std.proofs.lemmas.Result.{err_from_is_err_and}
 use Rattle.std.specs.Prelude.{Err}
 use mathlib.Core.Path.{ap, ◌∙◌}
 use Rattle.listing.proofs.EndLaws.{stopped_end}
-use Rattle.list_module.proofs.ModuleEnd.{module_end, module_refused}
+use Rattle.list_module.proofs.ModuleEnd.{module_fits, module_refused}
 use Rattle.list_module.proofs.module.module_under.Goals as goal
 
 pub returns-in_err-part : goal.returns-in_err-part
@@ -11,6 +11,4 @@ returns-in_err-part c =
     stopped_end _ _ c.args.lent (module_refused c.in_err-part.was c.list_functions.ensures) (p.1 ∙ ap Err p.2) c.list_functions.auto.out
 
 pub returns : goal.returns
-returns c =
-    let m = c.measure.ensures in
-    module_end _ _ _ c.in_ok-part.part c.args.lent _ m.value m.out_after c.in_ok-part.was c.list_functions.ensures
+returns c = module_fits _ _ c.in_ok-part.part c.args.lent _ c.fitting.ensures c.in_ok-part.was c.list_functions.ensures

@@ -7,11 +7,12 @@ use native.Mathlib.Nat.{lt_of_lt_of_le, pow-le-pow_right}
 use native.Mathlib.Omega.{arith}
 use lib.Dec.{eqb, ltb, leb}
 use lib.ListN.{length, get_or-eq_default}
-use borrow.Author.Tests.{ltb-true, leb-true, le-leb, ne_eqb}
+use borrow.Author.Tests.{ltb-true, lt-ltb, leb-true, le-leb, ne_eqb}
 use Rattle.lists.specs.Choice.{pick, both}
 use Rattle.lists.specs.Scan.{part}
 use Rattle.lists.proofs.Tests.{by_leb, by_eqb, both_left, both_right, true_not_false}
-use Rattle.spec_numbers.specs.Print.{decimal}
+use Rattle.spec_numbers.specs.Print.{decimal, signed_decimal}
+use Rattle.spec_numbers.specs.TwosComplement.{signed}
 use Rattle.spec_numbers.specs.Double.{print_double}
 use Rattle.spec_sheet.specs.Types.{widths, width_of, family_of, string_family}
 use Rattle.spec_sheet.proofs.TypeLaws.{below, implies, by_codes}
@@ -48,6 +49,11 @@ module _ (bytes ends : List ℕ) (id : ℕ) where
   pub id_hidden : decimal id ≡ string_text false bytes ends id
   unfolding string_text
   id_hidden = refl
+
+-- a number of a family behind the strings' has a sign
+pub behind_strings : (family n : ℕ) → string_family < family → value_text family n ≡ signed_decimal (signed 32 n)
+unfolding value_text
+behind_strings family n h = rw (lt-ltb string_family family h)
 
 -- an operand that is no double has at most 32 bits
 pub short_bits : (code bits : ℕ) → family_of code ≤ 5 → bits < 256 ^ width_of code → bits < 4294967296

@@ -13,6 +13,6 @@ front_text family = pick (eqb family reg_family) (114 ∷ []) (pick (eqb family 
 abbrev pub signed_family : ℕ → Bool
 signed_family family = either (eqb family addr_family) (eqb family imm32_family)
 
--- those of these families, which are behind the strings'; a Double's bits are not listed so
+-- those of the families behind the strings' have a sign; a Double's bits are not listed so
 unfoldable pub value_text : ℕ → ℕ → List ℕ
 value_text family n = pick (ltb string_family family) (signed_decimal (signed 32 n)) (decimal n)

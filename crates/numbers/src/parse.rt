@@ -69,15 +69,15 @@ pub fn unsigned_value(s: &[u8], from: usize, base: u64, most: u64) -> Option<u64
     parse_digits(&s[from..], base, most)
 }
 
-// A u32 with a `+` that may stand in front.
-fn parse_u32_in(s: &[u8], base: u64) -> Option<u64>
-    requires { 0 < base }
-    ensures { result ≡ number_of (parse_u32_in base s.now) }
+// A u32 with a `+` that may stand in front. The base is a const, so that what a digit is tested by and multiplied with is known.
+fn parse_u32_in<const BASE: u64>(s: &[u8]) -> Option<u64>
+    requires { 0 < BASE }
+    ensures { result ≡ number_of (parse_u32_in BASE s.now) }
 {
     match s {
         [] => None,
-        [b'+', ..] => unsigned_value(s, 1, base, 0xffff_ffff),
-        _ => unsigned_value(s, 0, base, 0xffff_ffff),
+        [b'+', ..] => unsigned_value(s, 1, BASE, 0xffff_ffff),
+        _ => unsigned_value(s, 0, BASE, 0xffff_ffff),
     }
 }
 
@@ -85,14 +85,14 @@ fn parse_u32_in(s: &[u8], base: u64) -> Option<u64>
 pub fn parse_u32(s: &[u8]) -> Option<u64>
     ensures { result ≡ number_of (parse_u32 s.now) }
 {
-    parse_u32_in(s, 10)
+    parse_u32_in::<10>(s)
 }
 
 // `u32::from_str_radix(_, 16)`.
 pub fn parse_hex(s: &[u8]) -> Option<u64>
     ensures { result ≡ number_of (parse_hex s.now) }
 {
-    parse_u32_in(s, 16)
+    parse_u32_in::<16>(s)
 }
 
 // The 32 bits of minus n.
